@@ -1,0 +1,13 @@
+-- `words::word::encode_next` meets its contract: the test picks the case of `nextField`. Assumes nothing.
+use borrow.Author.Tests.{eq-eqb, ne-eqb}
+use Rattle.words.proofs.word.encode_next.Statement.{statement}
+use Rattle.words.proofs.word.encode_next.Tie as tie
+
+returns : tie.Need-returns
+returns c = simp (eq-eqb _ _ (c .if1 .taken))
+
+returns-2 : tie.Need-returns-2
+returns-2 c = simp (ne-eqb _ _ (c .if1 .left))
+
+pub encode-next-spec : {M : Type 1} → statement M
+encode-next-spec = tie.close (tie.spec returns returns-2)

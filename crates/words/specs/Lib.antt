@@ -1,0 +1,4 @@
+pub mod Word
+pub mod Order
+pub mod Place
+pub mod Cases
