@@ -1,0 +1,6 @@
+pub mod Runs
+pub mod Heap
+pub mod Steps
+pub mod Rules
+pub mod History
+pub mod Demand
