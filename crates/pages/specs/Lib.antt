@@ -1,0 +1,3 @@
+pub mod Info
+pub mod Said
+pub mod Fill

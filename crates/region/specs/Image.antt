@@ -1,0 +1,124 @@
+-- The heap that record and words show, and the record and words that show a heap. All three are total and compute.
+use Prim.Native.Nat.{ℕ, zero, suc, _+_, _≤_, _<_, _^_}
+use mathlib.Core.Path.{_≡_}
+use mathlib.Core.Bool.{cond}
+use mathlib.Core.List.{List, [], _∷_}
+use lib.Dec.{eqb, ltb}
+use lib.ListN.{length, getD}
+use Rattle.words.specs.Word.{noPage, memOf}
+use Rattle.words.specs.declared.word.PageInfo.{PageInfo}
+use Rattle.words.specs.declared.word.PageInfo.the-variants.{Free, Allocated, Slab, Compound, File, Reserved}
+use Rattle.words.specs.declared.word.Decoded.{Decoded}
+use Rattle.words.specs.declared.word.Decoded.the-variants.{Info}
+use Rattle.buddy.specs.Runs.{start}
+use Rattle.buddy.specs.Heap.{Kind, free, used, slab, file, Tag, tag, Heap, SoundHeap}
+use Rattle.buddy.specs.Rules.{span}
+use Rattle.pages.specs.Info.{freeInfo, allocatedInfo, slabInfo, compoundInfo, fileInfo, reservedInfo}
+use Rattle.pages.specs.Said.{said, nextIn}
+use Rattle.region.specs.Layout.{endOf, Limits}
+use Rattle.region.specs.State.{State, st}
+use Rattle.region.specs.declared.HeapMemoryRegion.{HeapMemoryRegion}
+
+-- the head of a list, as the record writes it
+abbrev pub headOr : List ℕ → ℕ
+headOr [] = noPage
+headOr (x ∷ xs) = x
+
+-- the page after p on a list
+unfoldable pub nextAfter : ℕ → List ℕ → ℕ
+nextAfter p [] = noPage
+nextAfter p (x ∷ xs) = cond (eqb x p) (headOr xs) (nextAfter p xs)
+
+-- what the head of a block says
+abbrev pub headInfo : Kind → ℕ → ℕ → PageInfo
+headInfo free o next = freeInfo o next
+headInfo used o next = allocatedInfo o
+headInfo (slab i) o next = slabInfo i
+headInfo (file n) o next = fileInfo n
+
+-- what a managed page says: the head of a block by its kind, any other page Compound of the block's order
+unfoldable pub entry : Heap → ℕ → PageInfo
+entry h p = cond (eqb (start (h .at p .order) p) p)
+    (headInfo (h .at p .kind) (h .at p .order) (nextAfter p (h .list (h .at p .order))))
+    (compoundInfo (h .at p .order))
+
+-- what page p says, in a region with boot pages below a and metadata pages from e on
+unfoldable pub shown : ℕ → ℕ → Heap → ℕ → PageInfo
+shown a e h p = cond (ltb p a) (allocatedInfo 0) (cond (ltb p e) (entry h p) reservedInfo)
+
+-- the values of f at the n numbers from a on
+unfoldable pub table : (ℕ → ℕ) → ℕ → ℕ → List ℕ
+table f a zero = []
+table f a (suc n) = f a ∷ table f (a + 1) n
+
+-- the record and the words that show a heap, in the place of region r
+unfoldable pub regionOf : HeapMemoryRegion → Heap → HeapMemoryRegion
+regionOf r h = record {
+  «start_virt» = r .«start_virt»;
+  «page_count» = r .«page_count»;
+  allocated = r .allocated;
+  «nr_pages» = table (h .blocks) 0 6;
+  «free_pages» = table (λ o. length (h .list o)) 0 6;
+  «next_page» = table (λ o. headOr (h .list o)) 0 6;
+}
+
+unfoldable pub wordsOf : HeapMemoryRegion → Heap → List ℕ
+wordsOf r h = table (λ p. memOf (shown (r .allocated) (endOf r) h p)) 0 (r .«page_count»)
+
+abbrev pub image : HeapMemoryRegion → Heap → State
+image r h = st (regionOf r h) (wordsOf r h)
+
+-- the order that a page's word tells, and the kind that a head's word tells
+abbrev pub orderSaid : Decoded → ℕ
+orderSaid (Info (Free fi)) = fi .order
+orderSaid (Info (Allocated ai)) = ai .order
+orderSaid (Info (Slab si)) = 0
+orderSaid (Info (Compound ci)) = ci .order
+orderSaid (Info (File fi)) = 0
+orderSaid (Info (Reserved ri)) = 0
+orderSaid Decoded.No = 0
+
+abbrev pub kindSaid : Decoded → Kind
+kindSaid (Info (Free fi)) = free
+kindSaid (Info (Allocated ai)) = used
+kindSaid (Info (Slab si)) = slab (si .«item_size»)
+kindSaid (Info (Compound ci)) = used
+kindSaid (Info (File fi)) = file (fi .«ref_count»)
+kindSaid (Info (Reserved ri)) = used
+kindSaid Decoded.No = used
+
+-- the tag that the words tell of page p: the order by its own word, the kind by the word at its block's start
+unfoldable pub tagSaid : List ℕ → ℕ → Tag
+tagSaid ws p = tag (orderSaid (said ws p)) (kindSaid (said ws (start (orderSaid (said ws p)) p)))
+
+-- the n pages from p on by the next fields
+unfoldable pub walk : List ℕ → ℕ → ℕ → List ℕ
+walk ws zero p = []
+walk ws (suc n) p = p ∷ walk ws n (nextIn (said ws p))
+
+-- the heap that record and words show: tags of managed pages and lists by the words, counts by the record
+unfoldable pub heapOf : HeapMemoryRegion → List ℕ → Heap
+heapOf r ws = record {
+  at = λ p. cond (span (r .allocated) (endOf r) p) (tagSaid ws p) (tag 0 used);
+  list = λ o. cond (ltb o 6) (walk ws (getD (r .«free_pages») o 0) (getD (r .«next_page») o 0)) [];
+  blocks = λ o. getD (r .«nr_pages») o 0;
+}
+
+-- record and words show the heap h
+pub record Shows (r : HeapMemoryRegion) (ws : List ℕ) (h : Heap) : Type 0 where
+  pub limits : Limits (r .«start_virt» .0) (r .«page_count») (r .allocated) (length ws)
+  pub words : (p : ℕ) → p < r .«page_count» → said ws p ≡ Info (shown (r .allocated) (endOf r) h p)
+  pub totals : (o : ℕ) → o ≤ 5 → getD (r .«nr_pages») o 0 ≡ h .blocks o
+  pub frees : (o : ℕ) → o ≤ 5 → getD (r .«free_pages») o 0 ≡ length (h .list o)
+  pub heads : (o : ℕ) → o ≤ 5 → getD (r .«next_page») o 0 ≡ headOr (h .list o)
+
+-- the sound heap of a region
+abbrev pub SoundIn : HeapMemoryRegion → Heap → Type 0
+SoundIn r h = SoundHeap (span (r .allocated) (endOf r)) (endOf r) h
+
+-- what the types of the code give: arrays of six, words of 64 bits
+pub record Typed (r : HeapMemoryRegion) (ws : List ℕ) : Type 0 where
+  pub nr : length (r .«nr_pages») ≡ 6
+  pub frees : length (r .«free_pages») ≡ 6
+  pub heads : length (r .«next_page») ≡ 6
+  pub bits : (p : ℕ) → p < length ws → getD ws p 0 < 2 ^ 64

@@ -1,0 +1,6 @@
+pub mod Layout
+pub mod Pages
+pub mod Sound
+pub mod State
+pub mod Steps
+pub mod Image

@@ -1,0 +1,96 @@
+-- `release::get_file_page` meets its contract: what the word says and its count pick the case. Assumes nothing.
+use mathlib.Core.Path.{_≡_, refl, sym, _∙_}
+use denote.Ref.{now}
+use borrow.Author.Tests.{le-leb, lt-leb}
+use borrow.Author.Needs.{needs}
+use Rattle.words.specs.declared.word.PageInfo.the-variants.{File}
+use Rattle.words.specs.declared.word.Decoded.the-variants.{Info}
+use Rattle.pages.specs.Said.{said}
+use Rattle.pages.proofs.Patterns.{through, other}
+use Rattle.release.specs.Files.{gotCount, gotWords}
+use Rattle.release.specs.declared.Counted.the-variants.{NotFile}
+use Rattle.release.proofs.get_file_page.Statement.{statement}
+use Rattle.release.proofs.get_file_page.Tie as tie
+
+-- past the second pattern the word is a File's
+file :
+    (c : tie.After-known-told2) →
+    let start = c .before .before .before .before .before .before .before .before .before in
+    said (now (start .args .words)) (start .args .pfn) ≡ Info (File (c .before .info2 .given .0 .0))
+file c =
+    let first = c .before .before .before .before in
+    through (first .before .before .read-page-info .ensures) (first .info .given .1) (c .before .info2 .given .1)
+
+read-page-info-requires : tie.Need-read-page-info-requires
+read-page-info-requires c κs = search needs
+
+enum-known-info : tie.Need-enum-known-info
+enum-known-info c = search needs
+
+enum-told : tie.Need-enum-told
+enum-told c = search needs
+
+same-length : tie.Need-same-length
+same-length c = search needs
+
+returns : tie.Need-returns
+unfolding gotCount gotWords
+returns c = simp (sym (c .before .before .read-page-info .ensures) ∙ c .enum-told .given .1) (refl, refl)
+
+enum-known-info-2 : tie.Need-enum-known-info-2
+enum-known-info-2 c = search needs
+
+same-length-2 : tie.Need-same-length-2
+same-length-2 c = search needs
+
+returns-2 : tie.Need-returns-2
+unfolding gotCount gotWords
+returns-2 c =
+    let i = c .before .before .info .given in
+    simp (sym (c .before .before .before .before .read-page-info .ensures) ∙ i .1)
+    (sym (other (i .0 .0) NotFile .file _ (c .match2 .keys2)), sym (other (i .0 .0) _ .file _ (c .match2 .keys2)))
+
+same-length-3 : tie.Need-same-length-3
+same-length-3 c = search needs
+
+returns-3 : tie.Need-returns-3
+unfolding gotCount gotWords
+returns-3 c = simp (file (c .before), le-leb _ _ (c .if1 .taken)) (refl, refl)
+
+add-t13 : tie.Need-add-t13
+add-t13 c = search needs
+
+write-page-info-requires : tie.Need-write-page-info-requires
+write-page-info-requires c κs = search needs
+
+add-t13-2 : tie.Need-add-t13-2
+add-t13-2 c = search needs
+
+same-length-4 : tie.Need-same-length-4
+same-length-4 c = search needs
+
+returns-4 : tie.Need-returns-4
+unfolding gotCount gotWords
+returns-4 c =
+    let room = c .before .before .before .before in
+    simp (file (room .before), lt-leb _ _ (room .if1 .left)) (refl, c .before .before .write-page-info .ensures)
+
+pub get-file-page-spec : {M : Type 1} → statement M
+get-file-page-spec =
+    tie.close
+    (tie.spec
+    read-page-info-requires
+    enum-known-info
+    enum-told
+    same-length
+    returns
+    enum-known-info-2
+    same-length-2
+    returns-2
+    same-length-3
+    returns-3
+    add-t13
+    write-page-info-requires
+    add-t13-2
+    same-length-4
+    returns-4)

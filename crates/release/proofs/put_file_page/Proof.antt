@@ -1,0 +1,109 @@
+-- `release::put_file_page` meets its contract: what the word says and its count pick the case. Assumes nothing.
+use Prim.Native.Nat.{_-_}
+use mathlib.Core.Path.{_≡_, refl, sym, _∙_, ap}
+use native.Mathlib.Omega.{arith}
+use denote.Ref.{now}
+use borrow.Author.Tests.{le-leb, lt-leb}
+use borrow.Author.Needs.{needs}
+use Rattle.words.specs.declared.word.PageInfo.the-variants.{File}
+use Rattle.words.specs.declared.word.Decoded.the-variants.{Info}
+use Rattle.pages.specs.Said.{said}
+use Rattle.pages.proofs.Patterns.{through, other}
+use Rattle.release.specs.Files.{putCount, putState}
+use Rattle.release.specs.declared.Counted.the-variants.{Count, NotFile}
+use Rattle.release.proofs.put_file_page.Statement.{statement}
+use Rattle.release.proofs.put_file_page.Tie as tie
+
+-- past the second pattern the word is a File's
+file :
+    (c : tie.After-known-told2) →
+    let start = c .before .before .before .before .before .before .before .before .before in
+    said (now (start .args .words)) (start .args .pfn) ≡ Info (File (c .before .info2 .given .0 .0))
+file c =
+    let first = c .before .before .before .before in
+    through (first .before .before .read-page-info .ensures) (first .info .given .1) (c .before .info2 .given .1)
+
+read-page-info-requires : tie.Need-read-page-info-requires
+read-page-info-requires c κs = search needs
+
+enum-known-info : tie.Need-enum-known-info
+enum-known-info c = search needs
+
+enum-told : tie.Need-enum-told
+enum-told c = search needs
+
+same-length : tie.Need-same-length
+same-length c = search needs
+
+returns : tie.Need-returns
+unfolding putCount putState
+returns c = simp (sym (c .before .before .read-page-info .ensures) ∙ c .enum-told .given .1) (record { answers = refl; leaves = refl })
+
+enum-known-info-2 : tie.Need-enum-known-info-2
+enum-known-info-2 c = search needs
+
+same-length-2 : tie.Need-same-length-2
+same-length-2 c = search needs
+
+returns-2 : tie.Need-returns-2
+unfolding putCount putState
+returns-2 c =
+    let i = c .before .before .info .given in
+    simp (sym (c .before .before .before .before .read-page-info .ensures) ∙ i .1)
+    (record { answers = sym (other (i .0 .0) NotFile .file _ (c .match2 .keys2)); leaves = sym (other (i .0 .0) _ .file _ (c .match2 .keys2)) })
+
+free-page-order-requires : tie.Need-free-page-order-requires
+free-page-order-requires c κs =
+    let seen = c .before .before in
+    seen .before .before .before .before .before .before .before .before .before .pre .last _ (file seen) (c .before .if1 .taken)
+
+same-length-3 : tie.Need-same-length-3
+same-length-3 c = search needs
+
+returns-3 : tie.Need-returns-3
+unfolding putCount putState
+returns-3 c =
+    let last = c .before .before .before .before in
+    let none : 0 ≡ last .before .before .info2 .given .0 .0 .«ref_count» - 1 = omega (arith, last .if1 .taken) in
+    simp (file (last .before), le-leb _ _ (last .if1 .taken))
+    (record { answers = ap Count none; leaves = c .before .before .free-page-order .ensures })
+
+sub-t20 : tie.Need-sub-t20
+sub-t20 c = search needs
+
+write-page-info-requires : tie.Need-write-page-info-requires
+write-page-info-requires c κs = search needs
+
+sub-t20-2 : tie.Need-sub-t20-2
+sub-t20-2 c = search needs
+
+same-length-4 : tie.Need-same-length-4
+same-length-4 c = search needs
+
+returns-4 : tie.Need-returns-4
+unfolding putCount putState
+returns-4 c =
+    let more = c .before .before .before .before in
+    simp (file (more .before), lt-leb _ _ (more .if1 .left))
+    (record { answers = refl; leaves = rw (c .before .before .write-page-info .ensures) })
+
+pub put-file-page-spec : {M : Type 1} → statement M
+put-file-page-spec =
+    tie.close
+    (tie.spec
+    read-page-info-requires
+    enum-known-info
+    enum-told
+    same-length
+    returns
+    enum-known-info-2
+    same-length-2
+    returns-2
+    free-page-order-requires
+    same-length-3
+    returns-3
+    sub-t20
+    write-page-info-requires
+    sub-t20-2
+    same-length-4
+    returns-4)
