@@ -95,14 +95,14 @@ module _ {M : ℕ → Bool} {n : ℕ} {m : Moment} (bound : (p : ℕ) → T (M p
         small = order-small M at (kept .sound .core .tiled) p t
 
   -- clear by the record is free by the tags
-  clear-free : (o c : ℕ) → Clear M m o c → AllFree M at o c
+  pub clear-free : (o c : ℕ) → Clear M m o c → AllFree M at o c
   clear-free o c f q e = (
     f q e .0,
     by-cases (free? (at q .kind)) (λ x. x)
         (λ x. absurd (f q e .1 (at q .order) (start (at q .order) q) (busy-out q (f q e .0) x) (sym (cell-start (at q .order) q)))),
   )
 
-  free-clear : (o c : ℕ) → AllFree M at o c → Clear M m o c
+  pub free-clear : (o c : ℕ) → AllFree M at o c → Clear M m o c
   free-clear o c f q e = (f q e .0, λ j s x y. kept .real j s x .busy (sym (kind-of (same-tag j s q (says j s (inr x)) y .1)) ∙ f q e .1))
 
   still-as : (s : ℕ) (now : Kind) → As (m .events) s now → StillAs M m (grantedAs (m .events) s) s now
@@ -114,6 +114,7 @@ module _ {M : ℕ → Bool} {n : ℕ} {m : Moment} (bound : (p : ℕ) → T (M p
   kept-demand3 : Demand3 M m n
   kept-demand3 = record {
     tile = tile;
+    once = kept .once;
     aligned = λ o s x. says o s x .head;
     inside = λ o s q x e. same-tag o s q (says o s x) e .0;
     totals = totals M n bound (m .heap) (kept .sound .core);
@@ -175,10 +176,10 @@ module _ {M : ℕ → Bool} {n : ℕ} {m : Moment} (bound : (p : ℕ) → T (M p
   kept-all-back none p t = by-cases (free? (at p .kind)) (λ e. e) (λ e. absurd (List·Memᴰ·not-nil (rw (none (at p .order)) at (busy-out p t e))))
 
 -- From here on: every history from a set-up on, the pages from a up to e being managed.
-bound : (a e p : ℕ) → T (span a e p) → p < e
+pub bound : (a e p : ℕ) → T (span a e p) → p < e
 bound a e p t = T-span a e p t .1
 
-kept : (a e : ℕ) (cs : List Call) → Kept (span a e) e (after (span a e) (setUp a e .heap) cs)
+pub kept : (a e : ℕ) (cs : List Call) → Kept (span a e) e (after (span a e) (setUp a e .heap) cs)
 kept a e cs = after-kept (bound a e) (setUp a e .heap) (set-up a e .sound) (set-up a e .all-free) cs
 
 pub demand3 : (a e : ℕ) (cs : List Call) → Demand3 (span a e) (after (span a e) (setUp a e .heap) cs) e

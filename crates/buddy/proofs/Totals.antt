@@ -16,7 +16,7 @@ use Rattle.buddy.proofs.RunLaws.{start-le, lt-end, cell-between}
 use Rattle.buddy.proofs.Blocks.{heads-yes, heads-no}
 use Rattle.buddy.proofs.Clear.{order-small}
 
-pages-same : (f g : ℕ → ℕ) (k : ℕ) → ((o : ℕ) → o < k → f o ≡ g o) → pagesIn f k ≡ pagesIn g k
+pub pages-same : (f g : ℕ → ℕ) (k : ℕ) → ((o : ℕ) → o < k → f o ≡ g o) → pagesIn f k ≡ pagesIn g k
 unfolding pagesIn
 pages-same f g zero e = refl
 pages-same f g (suc k) e = rw (pages-same f g k (λ o l. e o (omega arith)), e k (omega arith))

@@ -5,7 +5,7 @@ use mathlib.Core.Bool.{Bool}
 use mathlib.Core.List.{List·Memᴰ}
 use Prim.Native.Nat.{ℕ, zero, suc, _+_, _*_, _^_, _≤_, _<_}
 use lib.Dec.{T}
-use Rattle.ground.specs.Numbers.{count}
+use Rattle.ground.specs.Numbers.{Once, count}
 use Rattle.buddy.specs.Runs.{cell, first, Head, buddy}
 use Rattle.buddy.specs.Heap.{Kind, free, used, slab, file}
 use Rattle.buddy.specs.Rules.{refused, allocate}
@@ -52,6 +52,7 @@ module _ (M : ℕ → Bool) (m : Moment) where
   pub record Demand3 (n : ℕ) : Type 0 where
     -- "the blocks still out by that record and the free blocks tile the managed pages, each page once"
     pub tile : (p : ℕ) → T (M p) → InOne p
+    pub once : (o : ℕ) → Once (stillOut (m .events) o)
     pub aligned : (o s : ℕ) → Stands o s → Head o s
     pub inside : (o s q : ℕ) → Stands o s → cell o q ≡ cell o s → T (M q)
     -- "the block totals add up to the managed pages, each count times its block's size"

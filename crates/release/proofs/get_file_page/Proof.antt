@@ -1,25 +1,12 @@
 -- `release::get_file_page` meets its contract: what the word says and its count pick the case. Assumes nothing.
-use mathlib.Core.Path.{_≡_, refl, sym, _∙_}
-use denote.Ref.{now}
+use mathlib.Core.Path.{refl, sym, _∙_}
 use borrow.Author.Tests.{le-leb, lt-leb}
 use borrow.Author.Needs.{needs}
-use Rattle.words.specs.declared.word.PageInfo.the-variants.{File}
-use Rattle.words.specs.declared.word.Decoded.the-variants.{Info}
-use Rattle.pages.specs.Said.{said}
 use Rattle.pages.proofs.Patterns.{through, other}
 use Rattle.release.specs.Files.{gotCount, gotWords}
 use Rattle.release.specs.declared.Counted.the-variants.{NotFile}
 use Rattle.release.proofs.get_file_page.Statement.{statement}
 use Rattle.release.proofs.get_file_page.Tie as tie
-
--- past the second pattern the word is a File's
-file :
-    (c : tie.After-known-told2) →
-    let start = c .before .before .before .before .before .before .before .before .before in
-    said (now (start .args .words)) (start .args .pfn) ≡ Info (File (c .before .info2 .given .0 .0))
-file c =
-    let first = c .before .before .before .before in
-    through (first .before .before .read-page-info .ensures) (first .info .given .1) (c .before .info2 .given .1)
 
 read-page-info-requires : tie.Need-read-page-info-requires
 read-page-info-requires c κs = search needs
@@ -55,7 +42,10 @@ same-length-3 c = search needs
 
 returns-3 : tie.Need-returns-3
 unfolding gotCount gotWords
-returns-3 c = simp (file (c .before), le-leb _ _ (c .if1 .taken)) (refl, refl)
+returns-3 c =
+    let first = c .before .before .before .before .before in
+    let file = through (first .before .before .read-page-info .ensures) (first .info .given .1) (c .before .before .info2 .given .1) in
+    simp (file, le-leb _ _ (c .if1 .taken)) (refl, refl)
 
 add-t13 : tie.Need-add-t13
 add-t13 c = search needs
@@ -73,7 +63,9 @@ returns-4 : tie.Need-returns-4
 unfolding gotCount gotWords
 returns-4 c =
     let room = c .before .before .before .before in
-    simp (file (room .before), lt-leb _ _ (room .if1 .left)) (refl, c .before .before .write-page-info .ensures)
+    let first = room .before .before .before .before .before in
+    let file = through (first .before .before .read-page-info .ensures) (first .info .given .1) (room .before .before .info2 .given .1) in
+    simp (file, lt-leb _ _ (room .if1 .left)) (refl, c .before .before .write-page-info .ensures)
 
 pub get-file-page-spec : {M : Type 1} → statement M
 get-file-page-spec =
