@@ -29,7 +29,7 @@ pub record Ready (n : ℕ) (s : State) : Type 0 where
   pub all-free : (p : ℕ) → T (s .managed p) → s .heap .at p .kind ≡ free
   pub clean : Clean (s .managed) (s .heap)
 
-empty-ready : (n : ℕ) → Ready n empty
+pub empty-ready : (n : ℕ) → Ready n empty
 unfolding empty
 empty-ready n = record {
   sound = record {
@@ -68,7 +68,7 @@ grow-ready n o c s r l new = record {
 
 -- k runs of order o from number c on
 module _ (o c : ℕ) (s : State) where
-  growMany-managed : (k p : ℕ) → growMany o c k s .managed p ≡ (span c (c + k) (cell o p) || s .managed p)
+  pub growMany-managed : (k p : ℕ) → growMany o c k s .managed p ≡ (span c (c + k) (cell o p) || s .managed p)
   unfolding growMany grow withRun
   growMany-managed zero p = rw (span-out c (c + 0) (cell o p) (omega arith))
   growMany-managed (suc k) p = rw (growMany-managed k p) (by-cases (ℕ-discrete (cell o p) (c + k))
@@ -85,7 +85,7 @@ module _ (o c : ℕ) (s : State) where
 
 -- the pages from a up to e, one by one
 module _ (a e : ℕ) (s : State) where
-  single-managed : (p : ℕ) → growMany 0 a (e - a) s .managed p ≡ (span a e p || s .managed p)
+  pub single-managed : (p : ℕ) → growMany 0 a (e - a) s .managed p ≡ (span a e p || s .managed p)
   single-managed p = growMany-managed 0 a s (e - a) p
       ∙ rw (span-same a (a + (e - a)) (cell 0 p) a e p (omega (arith, cell-zero p)) (omega (arith, cell-zero p)))
 
@@ -97,7 +97,7 @@ module _ (a e : ℕ) (s : State) where
 
 -- the order 5 runs from number lo up to hi
 module _ (lo hi : ℕ) where
-  large-managed : (p : ℕ) → growMany 5 lo (hi - lo) empty .managed p ≡ span (lo * 32) (hi * 32) p
+  pub large-managed : (p : ℕ) → growMany 5 lo (hi - lo) empty .managed p ≡ span (lo * 32) (hi * 32) p
   unfolding empty cell
   large-managed p = growMany-managed 5 lo empty (hi - lo) p ∙ or-false _
       ∙ span-same lo (lo + (hi - lo)) (p / 32) (lo * 32) (hi * 32) p (omega arith) (omega arith)

@@ -49,14 +49,14 @@ module _ {M : ℕ → Bool} {r : HeapMemoryRegion} {h : Heap} (f : Fits M r h) (
   empty-head j valid e = head-image r h j valid ∙ rw e
 
   -- the lowest list that is not empty: none of `left` orders from j on, or list k + j
-  lowest-none : (left j : ℕ) → j + left ≤ 6 → ((i : ℕ) → j ≤ i → i < j + left → h .list i ≡ [])
+  pub lowest-none : (left j : ℕ) → j + left ≤ 6 → ((i : ℕ) → j ≤ i → i < j + left → h .list i ≡ [])
       → lowestFrom left j (regionOf r h .«next_page») ≡ Nothing
   unfolding lowestFrom
   lowest-none zero j l empty = refl
   lowest-none (suc left) j l empty = rw (eq-eqb _ _ (empty-head j (omega arith) (empty j (omega arith) (omega arith))))
       (lowest-none left (suc j) (omega arith) (λ i a b. empty i (omega arith) (omega arith)))
 
-  lowest-at : (left k j p : ℕ) (ps : List ℕ) → j + left ≤ 6 → k < left → ((i : ℕ) → j ≤ i → i < k + j → h .list i ≡ [])
+  pub lowest-at : (left k j p : ℕ) (ps : List ℕ) → j + left ≤ 6 → k < left → ((i : ℕ) → j ≤ i → i < k + j → h .list i ≡ [])
       → h .list (k + j) ≡ p ∷ ps → lowestFrom left j (regionOf r h .«next_page») ≡ At (k + j)
   unfolding lowestFrom
   lowest-at zero k j p ps l low empty is = absurd (omega arith)

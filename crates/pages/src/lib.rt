@@ -1,11 +1,11 @@
-// The words of a region's pages, lent as u64: one word read or written, a block's head written and its other words marked.
+// The words of a region's pages, lent as u64: one word read or written, a row of them, a block's.
 // For the steps on lists and blocks above it. It knows no record; below it stands `words`.
 ghost use mathlib.Core.Path.{_≡_};
-ghost use Prim.Native.Nat.{_<_, _^_};
+ghost use Prim.Native.Nat.{_+_, _<_, _≤_, _^_};
 ghost use lib.ListN.{length, set};
 ghost use Rattle.words.specs.Word.{memOf};
 ghost use Rattle.pages.specs.Said.{said, nextIn};
-ghost use Rattle.pages.specs.Fill.{BlockIn, mark, init};
+ghost use Rattle.pages.specs.Fill.{BlockIn, fill, mark, init};
 use words::word::CompoundInfo;
 use words::word::Decoded;
 use words::word::FreeInfo;
@@ -52,18 +52,31 @@ pub fn size(order: usize) -> usize
     1usize << order
 }
 
+// Writes what `count` pages are, from page `from` on; `info` has a word.
+pub fn fill_words(words: &mut [u64], from: usize, count: usize, info: PageInfo)
+    requires { ⌜ from + count ≤ length (now words) ⌝ }
+    ensures { λ _. ⌜ now (words .exit) ≡ fill from (memOf info) count (now (words .entry)) ⌝ }
+{
+    let word = PageStorageType::to_mem(info).0;
+    let mut i = 0;
+    while i < count {
+        words[from + i] = word;
+        i += 1;
+    }
+}
+
 // Marks the pages of a block after its first as Compound.
 pub fn mark_compound_page(words: &mut [u64], pfn: usize, order: usize)
     requires { ⌜ BlockIn pfn order (now words) ⌝ }
     ensures { λ _. ⌜ now (words .exit) ≡ mark pfn order (now (words .entry)) ⌝ }
 {
-    let count = size(order) - 1;
-    let word = PageStorageType::to_mem(PageInfo::Compound(CompoundInfo { order })).0;
-    let mut i = 0;
-    while i < count {
-        words[pfn + 1 + i] = word;
-        i += 1;
-    }
+    let rest = size(order) - 1;
+    fill_words(
+        words,
+        pfn + 1,
+        rest,
+        PageInfo::Compound(CompoundInfo { order }),
+    );
 }
 
 // Writes a free block: its head, and the rest as Compound.

@@ -28,12 +28,12 @@ module _ (start pages : ℕ) where
       simp (le-ltb _ _ b, q, lt-leb _ _ h, r)
 
   -- what an answer says of the address
-  abbrev Starts : ℕ → PageAt → Type 0
+  abbrev pub Starts : ℕ → PageAt → Type 0
   Starts a (Start p) = (p .0 < pages) × (a ≡ start + p .0 * 4096)
-  Starts a (Within p) = Unit {0}
+  Starts a (Within p) = p .0 < pages
   Starts a PageAt.Outside = Unit {0}
 
-  starts : (a : ℕ) → Starts a (pageAt start pages a)
+  pub starts : (a : ℕ) → Starts a (pageAt start pages a)
   unfolding pageAt
   starts a =
       by-test (ltb a start) (λ t. rw t tt)
@@ -42,7 +42,7 @@ module _ (start pages : ℕ) where
       (λ u. rw u
       (by-test (eqb ((a - start) % 4096) 0)
       (λ v. rw v (leb-false _ _ u, omega (arith, ltb-false a start t, eqb-true ((a - start) % 4096) 0 v)))
-      (λ v. rw v tt)))))
+      (λ v. rw v (leb-false _ _ u))))))
 
   abbrev Lies : ℕ → AddressAt → Type 0
   Lies p (At a) = (p < pages) × (a .0 ≡ start + p * 4096)

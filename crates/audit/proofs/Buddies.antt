@@ -1,0 +1,70 @@
+-- Buddies: of two free buddies one is the lower half of a block one order up, so it is enough to look at lower halves. Assumes nothing.
+use Prim.Native.Nat.{ℕ, _+_, _-_, _*_, _/_, _%_, _^_, _≤_, _<_}
+use native.Mathlib.Omega.{arith}
+use native.Mathlib.Nat.{mul-mod-left, two-pow-succ}
+use native.Mathlib.Numerals.{add-one}
+use native.Mathlib.Decide.{ℕ-discrete}
+use mathlib.Core.Path.{_≡_, refl, sym, ap, subst, _∙_}
+use mathlib.Core.List.{List}
+use lib.Pow.{split, mod-pow-add}
+use borrow.Author.Tests.{eq-eqb, ne-eqb}
+use Rattle.pages.specs.Said.{said}
+use Rattle.region.specs.Pages.{freeOrder, Tiled, FreeBlock, buddyOf, NoBuddies}
+use Rattle.audit.specs.Decides.{Decides}
+use Rattle.audit.specs.Check.{lowerHalf, lonely}
+use Rattle.audit.proofs.Decisions.{decide-as, decide-eq, decide-lt, decide-and, decide-not, decide-all}
+use Rattle.audit.proofs.Tiling.{free-block}
+use Rattle.audit.proofs.Listing.{decide-free}
+
+buddy-lower : (o p : ℕ) → p % 2 ^ (o + 1) ≡ 0 → buddyOf o p ≡ p + 2 ^ o
+unfolding buddyOf
+buddy-lower o p h = simp (eq-eqb (p % 2 ^ (o + 1)) 0 h)
+
+-- a page that is a multiple of a size, and not of twice that, is an odd number of it
+odd : (o p : ℕ) → p % 2 ^ o ≡ 0 → (p % 2 ^ (o + 1) ≡ 0 → ⊥) → p / 2 ^ o ≡ p / 2 ^ o / 2 * 2 + 1
+odd o p h n =
+    let swap : o + 1 ≡ 1 + o = omega arith in
+    elim (ℕ-discrete (p / 2 ^ o % 2) 0) [ yes z ↦ absurd (n (rw (swap, mod-pow-add p 1 o, h, z) (omega arith))) | no z ↦ omega arith ]
+
+buddy-upper : (o p : ℕ) → p % 2 ^ o ≡ 0 → (p % 2 ^ (o + 1) ≡ 0 → ⊥) → (buddyOf o p % 2 ^ (o + 1) ≡ 0) × (buddyOf o p + 2 ^ o ≡ p)
+unfolding buddyOf
+buddy-upper o p h n =
+    let k = p / 2 ^ o in
+    let w : 2 ^ (o + 1) ≡ 2 ^ o + 2 ^ o = ap (λ i. 2 ^ i) (add-one o) ∙ two-pow-succ o in
+    let at : p ≡ k / 2 * 2 ^ (o + 1) + 2 ^ o = omega (arith, split p o, ap (λ i. i * 2 ^ o) (odd o p h n), ap (λ i. k / 2 * i) w) in
+    let below : p - 2 ^ o ≡ k / 2 * 2 ^ (o + 1) = omega arith in
+    rw (ne-eqb (p % 2 ^ (o + 1)) 0 n) (rw below (mul-mod-left (k / 2) (2 ^ (o + 1))), omega arith)
+
+module _ (ws : List ℕ) (a e : ℕ) where
+  -- page p heads the lower one of two free buddies
+  abbrev Half : ℕ → ℕ → Type 0
+  Half o p = (o < 5) × ((p % 2 ^ (o + 1) ≡ 0) × FreeBlock ws a e o (p + 2 ^ o))
+
+  decide-half : (o p : ℕ) → Decides (lowerHalf ws a e o p) (Half o p)
+  unfolding lowerHalf
+  decide-half o p =
+      decide-and (decide-lt o 5) (λ _. decide-and (decide-eq (p % 2 ^ (o + 1)) 0) (λ _. decide-free ws a e o (p + 2 ^ o)))
+
+  pub decide-buddies : Tiled ws a e → Decides (lonely ws a e) (NoBuddies ws a e)
+  decide-buddies t =
+      decide-as to from (decide-all a (e - a) (λ p _ _. decide-not (decide-half (freeOrder (said ws p)) p)))
+    where
+      to : ((p : ℕ) → a ≤ p → p < a + (e - a) → Half (freeOrder (said ws p)) p → ⊥) → NoBuddies ws a e
+      to none =
+          record {
+            none = λ o p l f g.
+                elim (ℕ-discrete (p % 2 ^ (o + 1)) 0) [
+                  | yes z ↦ at f (l, (z, subst (FreeBlock ws a e o) (buddy-lower o p z) g))
+                  | no z ↦
+                      let b = buddy-upper o p (free-block ws a (omega arith) t f .aligned) z in
+                      at g (l, (b .0, subst (FreeBlock ws a e o) (sym (b .1)) f))
+                ];
+          }
+        where
+          at : {o p : ℕ} → FreeBlock ws a e o p → Half o p → ⊥
+          at {o} {p} f h = none p (f .from) (omega (arith, f .from, f .below)) (subst (λ n. Half n p) (sym (f .is)) h)
+
+      from : NoBuddies ws a e → (p : ℕ) → a ≤ p → p < a + (e - a) → Half (freeOrder (said ws p)) p → ⊥
+      from n p h k x =
+          n .none (freeOrder (said ws p)) p (x .0) (record { from = h; below = omega arith; is = refl })
+          (subst (FreeBlock ws a e (freeOrder (said ws p))) (sym (buddy-lower (freeOrder (said ws p)) p (x .1 .0))) (x .1 .1))

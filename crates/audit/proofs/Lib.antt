@@ -1,0 +1,12 @@
+pub mod Limit
+pub mod Loops
+pub mod Decisions
+pub mod Sums
+pub mod Tallies
+pub mod Saying
+pub mod Tiling
+pub mod Listing
+pub mod Buddies
+pub mod Sound
+pub mod Idle
+pub mod Cases

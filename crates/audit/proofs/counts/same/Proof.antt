@@ -1,0 +1,65 @@
+-- `audit::counts::same` meets its contract: the orders that are left have the answer. Assumes nothing.
+use Prim.Native.Nat.{_-_, _≤_}
+use native.Mathlib.Omega.{arith}
+use mathlib.Core.Path.{_≡_, refl}
+use lib.Dec.{eqb}
+use lib.ListN.{getD}
+use borrow.Author.Needs.{needs}
+use borrow.Author.Tests.{eq-eqb, ne-eqb}
+use Rattle.audit.specs.Check.{all, counts}
+use Rattle.audit.proofs.Loops.{all-next, all-stops, all-ends}
+use Rattle.audit.proofs.counts.same.Statement.{statement}
+use Rattle.audit.proofs.counts.same.Tie as tie
+
+abbrev Inv-loop : tie.InvT-loop
+Inv-loop a b order₀ order = (order ≤ 6) × (counts a (λ o. getD b o 0) ≡ all (λ o. eqb (getD a o 0) (getD b o 0)) order (6 - order))
+
+abbrev μ-loop : tie.MeasureT-loop
+μ-loop a b order₀ order = 6 - order
+
+loop-holds : tie.Need-loop-holds Inv-loop μ-loop
+loop-holds c = (omega arith, refl)
+
+mul-if1 : tie.Need-mul-if1 Inv-loop μ-loop
+mul-if1 c = search needs
+
+array-read-if1 : tie.Need-array-read-if1 Inv-loop μ-loop
+array-read-if1 c = search needs
+
+mul-if1-2 : tie.Need-mul-if1-2 Inv-loop μ-loop
+mul-if1-2 c = search needs
+
+array-read-if1-2 : tie.Need-array-read-if1-2 Inv-loop μ-loop
+array-read-if1-2 c = search needs
+
+returns : tie.Need-returns Inv-loop μ-loop
+returns c = all-stops _ _ _ (c .before .before .loop .inv .1) (c .before .loop-test .taken) (ne-eqb _ _ (c .if1 .taken))
+
+add-order : tie.Need-add-order Inv-loop μ-loop
+add-order c = search needs
+
+loop-less : tie.Need-loop-less Inv-loop μ-loop
+loop-less c = search needs
+
+loop-again : tie.Need-loop-again Inv-loop μ-loop
+loop-again c = (omega arith, all-next _ _ _ (c .before .before .loop .inv .1) (c .before .loop-test .taken) (eq-eqb _ _ (c .if1 .left)))
+
+returns-2 : tie.Need-returns-2 Inv-loop μ-loop
+returns-2 c = all-ends _ _ _ (c .before .loop .inv .1) (c .loop-test .left)
+
+pub same-spec : {M : Type 1} → statement M
+same-spec =
+    tie.close
+    (tie.spec
+    Inv-loop
+    μ-loop
+    loop-holds
+    mul-if1
+    array-read-if1
+    mul-if1-2
+    array-read-if1-2
+    returns
+    add-order
+    loop-less
+    loop-again
+    returns-2)

@@ -1,0 +1,4 @@
+pub mod Decides
+pub mod Check
+pub mod Counts
+pub mod Cases

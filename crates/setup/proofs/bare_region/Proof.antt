@@ -1,0 +1,12 @@
+-- `setup::bare_region` meets its contract, by computation. Assumes nothing.
+use mathlib.Core.Path.{refl}
+use Rattle.setup.specs.Steps.{bare}
+use Rattle.setup.proofs.bare_region.Statement.{statement}
+use Rattle.setup.proofs.bare_region.Tie as tie
+
+returns : tie.Need-returns
+unfolding bare
+returns c = refl
+
+pub bare-region-spec : {M : Type 1} → statement M
+bare-region-spec = tie.close (tie.spec returns)
