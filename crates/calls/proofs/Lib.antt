@@ -1,0 +1,12 @@
+pub mod Answers
+pub mod Good
+pub mod Typing
+pub mod Patterns
+pub mod Places
+pub mod Heads
+pub mod GrantLaws
+pub mod FreeLaws
+pub mod FileLaws
+pub mod Requests
+pub mod Ways
+pub mod Keeps
