@@ -36,6 +36,7 @@ module _ (start : VirtAddr) (n a : ℕ) (ws : List ℕ) (long : length ws ≡ n)
   abbrev e : ℕ
   e = allocPages n
 
+  -- below alloc_pages every page shows Allocated 0
   idle : (p : ℕ) → p < e → shown a e (empty .heap) p ≡ allocatedInfo 0
   unfolding empty
   idle p l = by-cases (decLt p a)
@@ -55,9 +56,11 @@ module _ (start : VirtAddr) (n a : ℕ) (ws : List ℕ) (long : length ws ≡ n)
       (λ l. rw (le-ltb i e (omega arith)) (ap memOf (shown-meta a e (empty .heap) i (omega arith) (omega arith))
       ∙ sym (List·getD-eq-default ws (memOf reservedInfo) (let past = out (omega arith) in omega arith)))))
     where
+      -- behind the last word it may be anything; Reserved is what is shown there
       old : ℕ → ℕ
       old i = getD ws i (memOf reservedInfo)
 
+      -- after the first fill
       low : ℕ → ℕ
       low i = cond (ltb i e) (memOf (allocatedInfo 0)) (old i)
 

@@ -52,7 +52,8 @@ pub record GrowBlocksOk (o p k : ℕ) (s : State) : Type 0 where
   pub order : o < 6
   pub turn : (i : ℕ) → i < k → GrowOk o (p + i * 2 ^ o) (growBlocks o p i s)
 
--- the pages from a up to e, with the order 5 runs from page lo up to hi
+-- "aligned order 5 blocks first, ascending; then the low fringe, then the high fringe, page by page, merging. With no whole order 5 run, all
+-- pages singly": the pages from a up to e, with the order 5 runs from page lo up to hi
 unfoldable pub growFrom : ℕ → ℕ → ℕ → ℕ → State → State
 growFrom a e lo hi s =
     cond (ltb lo hi)
@@ -74,7 +75,7 @@ pub record GrowSpanOk (a e : ℕ) (s : State) : Type 0 where
   pub ends : e ≤ length (s .ws)
   pub calls : GrowFromOk a e ((a + 31) / 32 * 32) (e / 32 * 32) s
 
--- init_memory
+-- init_memory: n pages, of which a are boot pages; "what the words held before plays no part"
 unfoldable pub initMemory : VirtAddr → ℕ → ℕ → List ℕ → State
 initMemory start n a ws = growSpan a (allocPages n) (st (bare start n a) (blank n ws))
 

@@ -47,7 +47,9 @@ same-length : tie.Need-same-length Inv-loop μ-loop
 same-length c = search needs
 
 returns : tie.Need-returns Inv-loop μ-loop
-returns c = let done : c .before .loop .i ≡ c .before .before .before .before .args .count = omega arith in cc
+returns c =
+    let done : c .before .loop .i ≡ c .before .before .before .before .args .count = omega arith in
+    rw (c .before .loop .inv .1 .1, c .before .before .to-mem .ensures, done)
 
 pub fill-words-spec : {M : Type 1} → statement M
 fill-words-spec =

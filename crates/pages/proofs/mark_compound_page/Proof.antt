@@ -23,7 +23,9 @@ same-length c = search needs
 
 returns : tie.Need-returns
 unfolding mark
-returns c = cc
+returns c =
+    let filled = c .before .before in
+    rw (filled .fill-words .ensures, filled .before .before .size .ensures)
 
 pub mark-compound-page-spec : {M : Type 1} → statement M
 mark-compound-page-spec =
