@@ -1,0 +1,4 @@
+pub mod Audited
+pub mod SetUps
+pub mod One
+pub mod Sound

@@ -1,0 +1,67 @@
+-- From sound input every call leaves sound output, of the code's types; from unsound input nothing changes, and the call says so. These are
+-- results. Assumes nothing.
+use mathlib.Core.Path.{_≡_, refl}
+use mathlib.Core.Logic.{_≢_}
+use mathlib.Core.Bool.{false, true}
+use mathlib.Core.List.{List, []}
+use Prim.Native.Nat.{ℕ}
+use Rattle.ground.proofs.Tests.{by-test}
+use lib.ListN.{length}
+use Rattle.words.specs.declared.place.VirtAddr.{VirtAddr}
+use Rattle.region.specs.Sound.{Sound}
+use Rattle.region.specs.declared.HeapMemoryRegion.{HeapMemoryRegion}
+use Rattle.image.proofs.Step.{Lent}
+use Rattle.image.proofs.Inverse.{write-typed}
+use Rattle.image.proofs.Fresh.{fresh, fresh-fine, fresh-sound}
+use Rattle.image.specs.Fine.{managed}
+use Rattle.audit.specs.Check.{soundB}
+use Rattle.audit.proofs.Sound.{sound-decides}
+use Rattle.calls.specs.Told.{ok, no, Result}
+use Rattle.calls.specs.Promise.{kept}
+use Rattle.calls.proofs.Good.{Good}
+use Rattle.calls.proofs.Requests.{Request, forBlock, forFile, forSlab, at, toFree, toGet, toPut, promised}
+use Rattle.calls.proofs.Keeps.{keeps}
+use Rattle.heap.specs.Promise.{bare, emptyRegion, setUpPromise, audited, allocatePromise, filePromise, slabPromise, freePromise, getPromise, putPromise}
+use Rattle.heap.proofs.SetUps.{set-up-results}
+
+module _ (r : HeapMemoryRegion) (ws : List ℕ) where
+  -- what a public call answers and leaves
+  abbrev pub promise : Request → Result
+  promise (forBlock o) = allocatePromise r ws o
+  promise forFile = filePromise r ws
+  promise (forSlab i) = slabPromise r ws i
+  promise (at toFree a) = freePromise r ws a
+  promise (at toGet a) = getPromise r ws a
+  promise (at toPut a) = putPromise r ws a
+
+  pub promise-audited : (x : Request) → promise x ≡ audited r ws (promised r ws x)
+  unfolding allocatePromise filePromise slabPromise freePromise getPromise putPromise
+  promise-audited (forBlock o) = refl
+  promise-audited forFile = refl
+  promise-audited (forSlab i) = refl
+  promise-audited (at toFree a) = refl
+  promise-audited (at toGet a) = refl
+  promise-audited (at toPut a) = refl
+
+  pub sound-promise : Sound r ws → (x : Request) → promise x ≡ promised r ws x
+  sound-promise s x = rw (promise-audited x, sound-decides r ws .back s)
+
+  pub sound-kept : Good r ws → (x : Request) → Good (promise x .region) (promise x .words)
+  sound-kept good x = rw (sound-promise (good .sound) x) (keeps good x)
+
+  pub damaged-kept : (Sound r ws → ⊥) → (x : Request) → promise x ≡ kept r ws (no 4 [])
+  damaged-kept n x = rw (promise-audited x) (by-test (soundB r ws) (λ t. absurd (n (sound-decides r ws .yes t))) (λ t. rw t))
+
+module _ (start : VirtAddr) (n a : ℕ) (ws : List ℕ) where
+  -- a set-up that succeeds leaves sound output, and one that is refused the empty record and every word
+  pub set-up-sound : setUpPromise start n a ws .told .number ≡ 0 → Good (setUpPromise start n a ws .region) (setUpPromise start n a ws .words)
+  set-up-sound = set-up-results start n a ws (λ x. x .told .number ≡ 0 → Good (x .region) (x .words))
+      (λ l _.
+      let r = bare start n a in
+      let lent : Lent r = rw (l .long) at l in
+      record { typed = write-typed (managed r) r (fresh r) lent (fresh-fine r .fits); sound = fresh-sound r lent })
+      (λ k some e. absurd (some e))
+
+  pub set-up-refuses : setUpPromise start n a ws .told .number ≢ 0
+      → setUpPromise start n a ws ≡ kept emptyRegion ws (setUpPromise start n a ws .told)
+  set-up-refuses = set-up-results start n a ws (λ x. x .told .number ≢ 0 → x ≡ kept emptyRegion ws (x .told)) (λ l e. absurd (e refl)) (λ k some e. refl)

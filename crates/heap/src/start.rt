@@ -1,0 +1,69 @@
+// Set-up of a region.
+ghost use mathlib.Core.Path.{_≡_};
+ghost use Rattle.calls.specs.Told.{result, done};
+ghost use Rattle.heap.specs.Promise.{emptyRegion, setUpTold, setUpPromise};
+use calls::AllocError;
+use calls::Done;
+use calls::Finished;
+use region::HeapMemoryRegion;
+use region::MAX_PAGES;
+use setup::bare_region;
+use setup::init_memory;
+use words::place::PAGE_SIZE;
+use words::place::VirtAddr;
+
+// The record of a region without pages.
+pub fn empty_region() -> HeapMemoryRegion
+    ensures { λ r. ⌜ r ≡ emptyRegion ⌝ }
+{
+    bare_region(VirtAddr(0), 0, 0)
+}
+
+// Whether a region can be set up with these numbers, and if not, the first refusal.
+fn set_up_answer(start_virt: VirtAddr, page_count: usize, allocated: usize, words: usize) -> Done
+    ensures { λ r. ⌜ done r ≡ setUpTold («start_virt» .0) «page_count» allocated words ⌝ }
+{
+    let start = start_virt.0;
+    if page_count < 1 {
+        return Done::Refused(AllocError::BadCount);
+    }
+    if MAX_PAGES < page_count {
+        return Done::Refused(AllocError::BadCount);
+    }
+    if words != page_count {
+        return Done::Refused(AllocError::BadCount);
+    }
+    if start % PAGE_SIZE != 0 {
+        return Done::Refused(AllocError::BadStart);
+    }
+    if 0xffff_ffff_ffff_ffff - PAGE_SIZE * (page_count as u64) < start {
+        return Done::Refused(AllocError::BadStart);
+    }
+    if page_count - (page_count * 8 + 4095) / 4096 < allocated {
+        return Done::Refused(AllocError::TooManyBoot);
+    }
+    Done::Ok
+}
+
+// Sets a region up on the lent words: `page_count` pages from `start_virt` on, the first `allocated` of them boot pages.
+pub fn root_mem_init(
+    start_virt: VirtAddr,
+    page_count: usize,
+    allocated: usize,
+    words: &mut [u64],
+) -> Finished
+    ensures { λ r. ⌜ result (done (r .answer)) (r .region) (now (words .exit)) ≡ setUpPromise «start_virt» «page_count» allocated (now (words .entry)) ⌝ }
+{
+    let answer = set_up_answer(start_virt, page_count, allocated, words.len());
+    let Done::Ok = answer else {
+        return Finished {
+            region: empty_region(),
+            answer: answer,
+        };
+    };
+    let region = init_memory(words, start_virt, page_count, allocated);
+    Finished {
+        region: region,
+        answer: Done::Ok,
+    }
+}

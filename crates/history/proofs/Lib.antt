@@ -1,0 +1,9 @@
+pub mod Renamed
+pub mod Plays
+pub mod Mirror
+pub mod Now
+pub mod Told
+pub mod Demand3
+pub mod Frees
+pub mod Results
+pub mod Returns

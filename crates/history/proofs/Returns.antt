@@ -1,0 +1,68 @@
+-- What a return is, at every moment of every history: a free succeeds exactly at the address of a block still out, and a put answers 0 exactly
+-- at that of a file page that was put as often as it was got. Assumes nothing.
+use mathlib.Core.Path.{_≡_, refl, ap, sym, subst, _∙_}
+use mathlib.Core.List.{List, [], _∷_}
+use Prim.Native.Nat.{ℕ}
+use native.Mathlib.Omega.{arith}
+use lib.ListN.{getD}
+use Rattle.words.specs.declared.place.VirtAddr.{VirtAddr}
+use Rattle.buddy.specs.History as Model
+use Rattle.buddy.specs.History.{done, counted}
+use Rattle.buddy.specs.Demand as Of
+use Rattle.buddy.proofs.Demand3 as Proved
+use Rattle.region.specs.Layout.{endOf}
+use Rattle.region.specs.declared.HeapMemoryRegion.{HeapMemoryRegion}
+use Rattle.image.specs.Fine.{managed}
+use Rattle.calls.specs.Told.{Told, ok}
+use Rattle.calls.proofs.Requests.{toFree, toPut, at, Tells, tells-count}
+use Rattle.history.specs.Calls.{Call, freePage, putFilePage, called, Moment, after, Succeeded}
+use Rattle.history.specs.Demand.{Demand3, OutAt, LastAt, Returns}
+use Rattle.history.proofs.Plays.{Answers, answers-done, answers-put, start-address, by-success}
+use Rattle.history.proofs.Mirror.{Mirror, mirror}
+use Rattle.history.proofs.Now.{now, is-now, kept-now, gets-now, puts-now, as-now, out-page, out-from}
+use Rattle.history.proofs.Told.{free-told}
+use Rattle.history.proofs.Demand3.{demand3}
+
+give-done : {p : ℕ} {b : Model.Answer} → Answers (Model.give p) b → b ≡ done
+give-done answers-done = refl
+
+put-last : {r : HeapMemoryRegion} {ws : List ℕ} {p : ℕ} {b : Model.Answer} {t : Told} → Answers (Model.put p) b → Tells r ws b t
+    → t ≡ ok (0 ∷ []) → b ≡ counted 0
+put-last answers-put tells-count e = ap (λ (t : Told). counted (getD (t .values) 0 0)) e
+
+module _ {m : Moment} {xs : List Model.Call} (k : Mirror m xs) where
+  abbrev r : HeapMemoryRegion
+  r = m .region
+
+  model-returns : Of.Returns (managed r) (now k)
+  model-returns = subst (Of.Returns (managed r)) (is-now k) (Proved.returns (r .allocated) (endOf r) xs)
+
+  freed : (a : ℕ) → called r (m .words) (freePage a) .told ≡ ok [] → OutAt m a
+  freed a e = by-success (k .good) (at toFree a) [] e (λ p b t s c ans tells told.
+      let x = model-returns .frees p .0 (c ∙ give-done ans) in
+      (x .0, rw (start-address r a p s) (out-from k (x .0) p (x .1))))
+
+  put-back : (a : ℕ) → called r (m .words) (putFilePage a) .told ≡ ok (0 ∷ []) → LastAt m a
+  put-back a e = by-success (k .good) (at toPut a) (0 ∷ []) e (λ p b t s c ans tells told.
+      let x = model-returns .last p .0 (c ∙ put-last ans tells told) in
+      rw (start-address r a p s) (out-from k 0 p (x .0), as-now k p ∙ x .1, puts-now k p ∙ x .2 ∙ sym (gets-now k p)))
+
+  mirror-returns : Demand3 m → Returns m
+  mirror-returns d = record {
+    frees = λ a. (
+      freed a,
+      λ x.
+          let y = out-page k (x .0) a (x .1) in
+          rw (y .2) (free-told (k .good) (kept-now k .real (x .0) (y .0) (y .1))),
+    );
+    last = λ a. (
+      put-back a,
+      λ x.
+          let y = out-page k 0 a (x .0) in
+          let e = rw (y .2) at x in
+          rw (y .2) (d .puts-count (y .0) (e .0) (e .1) 1 (omega (arith, e .2))),
+    );
+  }
+
+pub returns : (start : VirtAddr) (n a : ℕ) (ws : List ℕ) → Succeeded start n a ws → (cs : List Call) → Returns (after start n a ws cs)
+returns start n a ws s cs = mirror-returns (mirror start n a ws s cs .1) (demand3 start n a ws s cs)
