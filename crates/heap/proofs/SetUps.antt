@@ -1,6 +1,6 @@
 -- Set-up: the ways through its checks, and that the code and the promise agree. Its numbers are those of a region exactly when no check refuses.
 -- Assumes nothing.
-use mathlib.Core.Path.{_≡_, refl, sym, ap, _∙_}
+use mathlib.Core.Path.{_≡_, ap}
 use mathlib.Core.Logic.{_≢_}
 use mathlib.Core.Bool.{false, cond, _&&_}
 use mathlib.Core.List.{List, []}

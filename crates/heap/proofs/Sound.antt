@@ -2,11 +2,9 @@
 -- results. Assumes nothing.
 use mathlib.Core.Path.{_≡_, refl}
 use mathlib.Core.Logic.{_≢_}
-use mathlib.Core.Bool.{false, true}
 use mathlib.Core.List.{List, []}
 use Prim.Native.Nat.{ℕ}
 use Rattle.ground.proofs.Tests.{by-test}
-use lib.ListN.{length}
 use Rattle.words.specs.declared.place.VirtAddr.{VirtAddr}
 use Rattle.region.specs.Sound.{Sound}
 use Rattle.region.specs.declared.HeapMemoryRegion.{HeapMemoryRegion}
@@ -16,7 +14,7 @@ use Rattle.image.proofs.Fresh.{fresh, fresh-fine, fresh-sound}
 use Rattle.image.specs.Fine.{managed}
 use Rattle.audit.specs.Check.{soundB}
 use Rattle.audit.proofs.Sound.{sound-decides}
-use Rattle.calls.specs.Told.{ok, no, Result}
+use Rattle.calls.specs.Told.{no, Result}
 use Rattle.calls.specs.Promise.{kept}
 use Rattle.calls.proofs.Good.{Good}
 use Rattle.calls.proofs.Requests.{Request, forBlock, forFile, forSlab, at, toFree, toGet, toPut, promised}

@@ -1,0 +1,77 @@
+-- Useless heaps are refused: no function that keeps its promise always refuses set-up, always answers 6, always grants one page, changes nothing
+-- by a free or a put, invents its counts, or says Damaged of everything. Each fails on region R, by computation. These are results.
+-- Assumes nothing.
+use mathlib.Core.Path.{_≡_, sym, ap, _∙_}
+use mathlib.Core.Logic.{_≢_}
+use mathlib.Core.List.{List, [], _∷_}
+use Prim.Native.Nat.{ℕ}
+use native.Mathlib.Omega.{arith}
+use lib.ListN.{getD}
+use Rattle.words.specs.declared.place.VirtAddr.{VirtAddr}
+use Rattle.region.specs.declared.HeapMemoryRegion.{HeapMemoryRegion}
+use Rattle.calls.specs.Told.{Told, ok, no, Result}
+use Rattle.calls.proofs.Requests.{forBlock}
+use Rattle.heap.specs.Promise.{setUpPromise, allocatePromise, freePromise, putPromise, auditPromise, reportPromise}
+use Rattle.heap.specs.declared.Report.{Report}
+use Rattle.heap.proofs.Cases.{page, R, then, one, filed, on-R}
+
+-- a set-up that always refuses
+pub not-always-refused : (f : VirtAddr → ℕ → ℕ → List ℕ → Result) → ((s : VirtAddr) (n a : ℕ) (ws : List ℕ) → f s n a ws ≡ setUpPromise s n a ws)
+    → ((s : VirtAddr) (n a : ℕ) (ws : List ℕ) → f s n a ws .told .number ≢ 0) → ⊥
+unfolding R
+not-always-refused f keeps useless = useless _ 64 3 _ (ap (λ (x : Result). x .told .number) (keeps _ 64 3 _) ∙ on-R .sets)
+
+-- a request that always answers 6, and one that always grants one page
+module _ (f : HeapMemoryRegion → List ℕ → ℕ → Result) (keeps : (r : HeapMemoryRegion) (ws : List ℕ) (o : ℕ) → f r ws o ≡ allocatePromise r ws o) where
+  tells : (x : Result) → f (x .region) (x .words) 1 .told ≡ then x (forBlock 1) .told
+  unfolding then
+  tells x = ap (λ (y : Result). y .told) (keeps (x .region) (x .words) 1)
+
+  pub not-always-six : ((r : HeapMemoryRegion) (ws : List ℕ) (o : ℕ) → f r ws o .told ≡ no 6 []) → ⊥
+  unfolding one
+  not-always-six useless =
+      let z : _≡_ {A = ℕ} 6 0 = ap (λ (t : Told). t .number) (sym (useless (R .region) (R .words) 1) ∙ tells R ∙ on-R .first-grant) in
+      omega arith
+
+  pub not-one-page : (a : ℕ) → ((r : HeapMemoryRegion) (ws : List ℕ) (o : ℕ) → f r ws o .told ≡ ok (a ∷ [])) → ⊥
+  unfolding one page
+  not-one-page a useless =
+      let first = sym (useless (R .region) (R .words) 1) ∙ tells R ∙ on-R .first-grant in
+      let second = sym (useless (one .region) (one .words) 1) ∙ tells one ∙ on-R .second-grant in
+      let z : _≡_ {A = ℕ} (page 60) (page 56) = ap (λ (t : Told). getD (t .values) 0 0) (sym first ∙ second) in
+      omega arith
+
+-- a free, and a put, that changes nothing
+pub not-idle-free : (f : HeapMemoryRegion → List ℕ → ℕ → Result)
+    → ((r : HeapMemoryRegion) (ws : List ℕ) (a : ℕ) → f r ws a ≡ freePromise r ws a)
+    → ((r : HeapMemoryRegion) (ws : List ℕ) (a : ℕ) → f r ws a .words ≡ ws) → ⊥
+unfolding then
+not-idle-free f keeps useless =
+    let same = sym (useless (one .region) (one .words) (page 60)) ∙ ap (λ (x : Result). x .words) (keeps _ _ _) in
+    let z : _≡_ {A = ℕ} 0x11 0xFFFFFFFFFFFFF010 = sym (on-R .out) ∙ ap (λ (ws : List ℕ). getD ws 60 0) same ∙ on-R .freed in
+    omega arith
+
+pub not-idle-put : (f : HeapMemoryRegion → List ℕ → ℕ → Result)
+    → ((r : HeapMemoryRegion) (ws : List ℕ) (a : ℕ) → f r ws a ≡ putPromise r ws a)
+    → ((r : HeapMemoryRegion) (ws : List ℕ) (a : ℕ) → f r ws a .words ≡ ws) → ⊥
+unfolding then
+not-idle-put f keeps useless =
+    let same = sym (useless (filed .region) (filed .words) (page 62)) ∙ ap (λ (x : Result). x .words) (keeps _ _ _) in
+    let z : _≡_ {A = ℕ} 0x14 0x3000 = sym (on-R .file-out) ∙ ap (λ (ws : List ℕ). getD ws 62 0) same ∙ on-R .put-back in
+    omega arith
+
+-- a report whose counts do not come from the region
+pub not-invented : (f : HeapMemoryRegion → List ℕ → Report) → ((r : HeapMemoryRegion) (ws : List ℕ) → f r ws ≡ reportPromise r ws)
+    → (counts : List ℕ) → ((r : HeapMemoryRegion) (ws : List ℕ) → f r ws .«free_pages» ≡ counts) → ⊥
+not-invented f keeps counts useless =
+    let at-R = sym (useless (R .region) (R .words)) ∙ ap (λ (x : Report). x .«free_pages») (keeps _ _) in
+    let after = sym (useless (one .region) (one .words)) ∙ ap (λ (x : Report). x .«free_pages») (keeps _ _) in
+    let z : _≡_ {A = ℕ} 1 0 = sym (on-R .counts) ∙ ap (λ (l : List ℕ). getD l 1 0) (sym at-R ∙ after) ∙ on-R .counts-after in
+    omega arith
+
+-- an audit that says Damaged of everything
+pub not-always-damaged : (f : HeapMemoryRegion → List ℕ → Told) → ((r : HeapMemoryRegion) (ws : List ℕ) → f r ws ≡ auditPromise r ws)
+    → ((r : HeapMemoryRegion) (ws : List ℕ) → f r ws ≡ no 4 []) → ⊥
+not-always-damaged f keeps useless =
+    let z : _≡_ {A = ℕ} 4 0 = ap (λ (t : Told). t .number) (sym (useless _ _) ∙ keeps (R .region) (R .words) ∙ on-R .sound) in
+    omega arith

@@ -1,0 +1,5 @@
+pub mod Words
+pub mod Apart
+pub mod Sizes
+pub mod Numbers
+pub mod Lists
