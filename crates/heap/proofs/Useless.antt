@@ -41,24 +41,24 @@ module _ (f : HeapMemoryRegion → List ℕ → ℕ → Result) (keeps : (r : He
       let z : _≡_ {A = ℕ} (page 60) (page 56) = ap (λ (t : Told). getD (t .values) 0 0) (sym first ∙ second) in
       omega arith
 
--- a free, and a put, that changes nothing
-pub not-idle-free : (f : HeapMemoryRegion → List ℕ → ℕ → Result)
-    → ((r : HeapMemoryRegion) (ws : List ℕ) (a : ℕ) → f r ws a ≡ freePromise r ws a)
+-- a call at an address that changes no word
+abbrev NotIdle : (HeapMemoryRegion → List ℕ → ℕ → Result) → Type 0
+NotIdle p = (f : HeapMemoryRegion → List ℕ → ℕ → Result) → ((r : HeapMemoryRegion) (ws : List ℕ) (a : ℕ) → f r ws a ≡ p r ws a)
     → ((r : HeapMemoryRegion) (ws : List ℕ) (a : ℕ) → f r ws a .words ≡ ws) → ⊥
-unfolding then
-not-idle-free f keeps useless =
-    let same = sym (useless (one .region) (one .words) (page 60)) ∙ ap (λ (x : Result). x .words) (keeps _ _ _) in
-    let z : _≡_ {A = ℕ} 0x11 0xFFFFFFFFFFFFF010 = sym (on-R .out) ∙ ap (λ (ws : List ℕ). getD ws 60 0) same ∙ on-R .freed in
-    omega arith
 
-pub not-idle-put : (f : HeapMemoryRegion → List ℕ → ℕ → Result)
-    → ((r : HeapMemoryRegion) (ws : List ℕ) (a : ℕ) → f r ws a ≡ putPromise r ws a)
-    → ((r : HeapMemoryRegion) (ws : List ℕ) (a : ℕ) → f r ws a .words ≡ ws) → ⊥
+-- it keeps no promise by which the word of some page q changes
+not-idle : (p : HeapMemoryRegion → List ℕ → ℕ → Result) (x : Result) (a q : ℕ)
+    → getD (x .words) q 0 ≢ getD (p (x .region) (x .words) a .words) q 0 → NotIdle p
+not-idle p x a q changes f keeps useless = changes (ap (λ (ws : List ℕ). getD ws q 0)
+    (sym (useless (x .region) (x .words) a) ∙ ap (λ (y : Result). y .words) (keeps (x .region) (x .words) a)))
+
+pub not-idle-free : NotIdle freePromise
 unfolding then
-not-idle-put f keeps useless =
-    let same = sym (useless (filed .region) (filed .words) (page 62)) ∙ ap (λ (x : Result). x .words) (keeps _ _ _) in
-    let z : _≡_ {A = ℕ} 0x14 0x3000 = sym (on-R .file-out) ∙ ap (λ (ws : List ℕ). getD ws 62 0) same ∙ on-R .put-back in
-    omega arith
+not-idle-free = not-idle freePromise one (page 60) 60 (λ e. omega (arith, on-R .out, on-R .freed))
+
+pub not-idle-put : NotIdle putPromise
+unfolding then
+not-idle-put = not-idle putPromise filed (page 62) 62 (λ e. omega (arith, on-R .file-out, on-R .put-back))
 
 -- a report whose counts do not come from the region
 pub not-invented : (f : HeapMemoryRegion → List ℕ → Report) → ((r : HeapMemoryRegion) (ws : List ℕ) → f r ws ≡ reportPromise r ws)
