@@ -8,7 +8,6 @@ FIXED = [
     b"\t",
     b"\r",
     b"   \t  ",
-    b"help",
     b"Alloc 0",
     b"ALLOC 0",
     b"alloc",

@@ -56,6 +56,9 @@ table =
     ∷ row 2 0 (1 ∷ 0 ∷ 0 ∷ 0 ∷ 0 ∷ 0 ∷ []) (0 ∷ noPage ∷ noPage ∷ noPage ∷ noPage ∷ noPage ∷ [])
     ∷ row 2 1 (replicate 6 0) none
     ∷ row 64 63 (replicate 6 0) none
+    -- two metadata pages: an odd number of pages, and document 01's case of 1,024
+    ∷ row 513 0 (1 ∷ 1 ∷ 1 ∷ 1 ∷ 1 ∷ 15 ∷ []) (510 ∷ 508 ∷ 504 ∷ 496 ∷ 480 ∷ 448 ∷ [])
+    ∷ row 1024 0 (0 ∷ 1 ∷ 1 ∷ 1 ∷ 1 ∷ 31 ∷ []) (noPage ∷ 1020 ∷ 1016 ∷ 1008 ∷ 992 ∷ 960 ∷ [])
     -- the boot pages end inside a run: one whole run, and fringes below and above it
     ∷ row 128 40 (1 ∷ 1 ∷ 1 ∷ 2 ∷ 2 ∷ 1 ∷ []) (126 ∷ 124 ∷ 120 ∷ 112 ∷ 96 ∷ 64 ∷ [])
     ∷ []
