@@ -1,5 +1,5 @@
 #!/usr/bin/env python3
-"""Holds demand 3 of any program that speaks PROTOCOL.md, from outside: from its answers alone.
+"""Holds demand 3 of any program that speaks the shell's protocol, from outside: from its answers alone.
 
 It sets regions up, grants and returns at random, and writes down only grants and returns that succeeded; it never
 looks at a word or at the state line, and knows nothing of how a heap works inside. Against that history it checks:

@@ -1,4 +1,4 @@
-"""Running programs that speak PROTOCOL.md on a script, and finding where two of them differ."""
+"""Running programs that speak the shell's protocol on a script, and finding where two of them differ."""
 
 import os
 import select

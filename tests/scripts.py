@@ -1,5 +1,5 @@
 #!/usr/bin/env python3
-"""Writes scripts of requests (PROTOCOL.md) to standard output, by kind, seed and length.
+"""Writes scripts of requests (README.md, "The shell") to standard output, by kind, seed and length.
 
 usage: scripts.py KIND SEED LINES    at most LINES lines of that kind; the same three give the same script
        scripts.py cases              the cases of document 01

@@ -1,7 +1,7 @@
 #!/usr/bin/env python3
 """The independent second program: a page heap written the obvious way from document 01.
 
-It reads requests from standard input and answers them on standard output, as PROTOCOL.md says. Nothing in it is
+It reads requests from standard input and answers them on standard output, as the shell's protocol says (README.md). Nothing in it is
 taken from the proved heap or from the upstream text; the comments in quotation marks are document 01's own
 sentences, each beside the code that it became. It is slow on purpose: every call looks at every page first.
 

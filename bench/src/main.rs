@@ -1,4 +1,4 @@
-//! `plain`: the plain heap behind PROTOCOL.md. Reads requests from standard input, answers on standard output.
+//! `plain`: the plain heap behind the shell's protocol. Reads requests from standard input, answers on standard output.
 
 use heap::{get_order, Heap, PageInfo, Refusal, Region, Word, MAX_ORDER, NO_PAGE};
 use std::io::{self, ErrorKind, Read, Write};
@@ -295,7 +295,7 @@ impl Session {
 
 fn main() -> io::Result<()> {
     if std::env::args().len() > 1 {
-        println!("usage: plain < SCRIPT > ANSWERS\n\nThe plain Rust heap behind PROTOCOL.md.");
+        println!("usage: plain < SCRIPT > ANSWERS\n\nThe plain Rust heap behind the shell's protocol.");
         return Ok(());
     }
     let shell = Shell { region: Region::EMPTY, words: Vec::new() };

@@ -1,0 +1,168 @@
+// A line of the input, taken apart into the names and numbers that its words say.
+ghost use Prim.Native.Nat.{_≤_};
+ghost use lib.ListN.{length};
+use crate::names;
+
+// The longest line, without its newline.
+pub const LONGEST: usize = 200;
+
+// What the `count` words of a line say, the name first. No words: no request.
+pub struct Request {
+    pub count: usize,
+    pub values: [u64; 4],
+}
+
+// What a word says.
+enum Number {
+    Is(u64),
+    Bad,
+}
+
+// Takes a line apart: at most four words, and none of them bad.
+pub fn parse(line: &[u8]) -> Request {
+    if LONGEST < line.len() {
+        return none();
+    }
+    let mut values = [0u64; 4];
+    let mut count: usize = 0;
+    let mut rest = line;
+    while count < 4 {
+        let blanks = run(rest, true);
+        rest = &rest[blanks..];
+        if rest.len() == 0 {
+            return Request { count, values };
+        }
+        let n = run(rest, false);
+        let Number::Is(value) = word(values[0], count, &rest[0..n]) else {
+            return none();
+        };
+        values[count] = value;
+        count += 1;
+        rest = &rest[n..];
+    }
+    if run(rest, true) < rest.len() {
+        return none();
+    }
+    Request { count, values }
+}
+
+fn none() -> Request {
+    Request {
+        count: 0,
+        values: [0; 4],
+    }
+}
+
+// What the word number `i` of a request says: a name, hex digits where the request has these, else a number.
+fn word(request: u64, i: usize, word: &[u8]) -> Number {
+    if i == 0 {
+        return Number::Is(name(word));
+    }
+    match request {
+        names::DECODE => hex(word),
+        names::POKE => { if i == 1 { decimal(word) } else { hex(word) } }
+        names::FIELD => {
+            if i == 1 {
+                Number::Is(name(word))
+            } else {
+                decimal(word)
+            }
+        }
+        _ => decimal(word),
+    }
+}
+
+// How many bytes at the start are white space, or how many are not.
+fn run(text: &[u8], blank: bool) -> usize
+    ensures { λ r. ⌜ r ≤ length (now (text .entry)) ⌝ }
+{
+    let mut i: usize = 0;
+    while i < text.len() {
+        if is_blank(text[i]) != blank {
+            return i;
+        }
+        i += 1;
+    }
+    i
+}
+
+// Space, tab, vertical tab, form feed, carriage return; a newline is in no line.
+fn is_blank(b: u8) -> bool {
+    match b {
+        b' ' | 9..=13 => true,
+        _ => false,
+    }
+}
+
+// A word as names.rt writes names; 0 for one that is none of them.
+fn name(word: &[u8]) -> u64 {
+    let mut n: u64 = 0;
+    let mut i: usize = 0;
+    while i < word.len() {
+        n = with_letter(n, word[i]);
+        if n == 0 {
+            return 0;
+        }
+        i += 1;
+    }
+    n
+}
+
+// The name with one letter more; 0 where no name goes on so.
+fn with_letter(n: u64, b: u8) -> u64 {
+    if n < 0x1_0000_0000_0000 {
+        if b'a' <= b {
+            return n * 256 + b as u64;
+        }
+    }
+    0
+}
+
+// 1 to 20 decimal digits.
+fn decimal(word: &[u8]) -> Number {
+    digits(word, 10, 20)
+}
+
+// 1 to 16 lower-case hexadecimal digits.
+fn hex(word: &[u8]) -> Number {
+    digits(word, 16, 16)
+}
+
+fn digits(word: &[u8], base: u64, longest: usize) -> Number {
+    if word.len() == 0 {
+        return Number::Bad;
+    }
+    if longest < word.len() {
+        return Number::Bad;
+    }
+    let mut n: u64 = 0;
+    let mut i: usize = 0;
+    while i < word.len() {
+        let Number::Is(next) = with_digit(n, base, word[i]) else {
+            return Number::Bad;
+        };
+        n = next;
+        i += 1;
+    }
+    Number::Is(n)
+}
+
+// The number with one digit more, if it fits.
+fn with_digit(n: u64, base: u64, b: u8) -> Number {
+    let d = digit(b);
+    if d < base {
+        if n <= (u64::MAX - d) / base {
+            return Number::Is(n * base + d);
+        }
+    }
+    Number::Bad
+}
+
+// What a digit counts; 16 for a byte that is none.
+fn digit(b: u8) -> u64 {
+    match b {
+        b'0'..=b'9' => (b - b'0') as u64,
+        b'a'..=b'f' => (b - b'a') as u64 + 10,
+        _ => 16,
+    }
+}

@@ -1,0 +1,31 @@
+-- `reply::texts::all_lists` ends and is safe. The loop's invariant: `out` keeps its length. Assumes nothing.
+use Prim.Native.Nat.{_-_}
+use mathlib.Core.Path.{_≡_}
+use lib.ListN.{length}
+use borrow.Author.Needs.{needs}
+use Rattle.reply.proofs.texts.all_lists.Statement.{statement}
+use Rattle.reply.proofs.texts.all_lists.Tie as tie
+
+abbrev Inv-loop : tie.InvT-loop
+Inv-loop out₀ at words heads counts used₀ order₀ out used order = length out ≡ length out₀
+
+abbrev μ-loop : tie.MeasureT-loop
+μ-loop out₀ at words heads counts used₀ order₀ out used order = 6 - order
+
+pub all-lists-spec : {M : Type 1} → statement M
+all-lists-spec =
+    tie.close
+    (tie.spec
+    Inv-loop
+    μ-loop
+    (λ c. search needs)
+    (λ c. search needs)
+    (λ c. search needs)
+    (λ c. search needs)
+    (λ c. search needs)
+    (λ c κs. search needs)
+    (λ c. search needs)
+    (λ c. search needs)
+    (λ c. search needs)
+    (λ c. search needs)
+    (λ c. search needs))

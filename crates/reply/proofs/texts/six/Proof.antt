@@ -1,0 +1,31 @@
+-- `reply::texts::six` ends and is safe. The loop's invariant: `out` keeps its length. Assumes nothing.
+use Prim.Native.Nat.{_-_}
+use mathlib.Core.Path.{_≡_}
+use lib.ListN.{length}
+use borrow.Author.Needs.{needs}
+use Rattle.reply.proofs.texts.six.Statement.{statement}
+use Rattle.reply.proofs.texts.six.Tie as tie
+
+abbrev Inv-loop : tie.InvT-loop
+Inv-loop out₀ at first pages numbers used₀ i₀ out used i = length out ≡ length out₀
+
+abbrev μ-loop : tie.MeasureT-loop
+μ-loop out₀ at first pages numbers used₀ i₀ out used i = 6 - i
+
+pub six-spec : {M : Type 1} → statement M
+six-spec =
+    tie.close
+    (tie.spec
+    Inv-loop
+    μ-loop
+    (λ c κs. search needs)
+    (λ c. search needs)
+    (λ c. search needs)
+    (λ c. search needs)
+    (λ c κs. search needs)
+    (λ c κs. search needs)
+    (λ c. search needs)
+    (λ c. search needs)
+    (λ c. search needs)
+    (λ c. search needs)
+    (λ c. search needs))

@@ -1,0 +1,90 @@
+// The shell over the heap: a request is a line, and its answer is text. The record and the lent words stay between lines.
+// For the program `heapsh`, which reads lines and lends the buffers. Below it stand `ask`, which takes a line apart, `show`, which writes
+// text, and the calls of `heap`.
+ghost use Prim.Native.Nat.{_≤_};
+ghost use lib.ListN.{length};
+use crate::requests::act;
+use crate::steps::Answer;
+use crate::steps::Step;
+use ask::input::parse;
+use heap::start::empty_region;
+use region::HeapMemoryRegion;
+use reply::texts::write_text;
+use show::answer::Word;
+use show::answer::bare;
+use show::answer::write;
+
+mod record;
+mod requests;
+mod steps;
+
+// The most words that can be lent.
+pub const MOST_WORDS: usize = 8192;
+
+// The word of a Reserved page.
+pub const RESERVED: u64 = 15;
+
+// What is kept from line to line beside the buffers: the record, how many words are lent, and how many bytes of answers wait.
+pub struct Shell {
+    pub region: HeapMemoryRegion,
+    pub lent: usize,
+    pub used: usize,
+}
+
+pub fn fresh() -> Shell {
+    Shell {
+        region: empty_region(),
+        lent: 0,
+        used: 0,
+    }
+}
+
+// Answers a line. The buffer has at least the words that are lent.
+pub fn answer(shell: Shell, line: &[u8], buffer: &mut [u64], out: &mut [u8]) -> Shell {
+    let region = shell.region;
+    let lent = shell.lent;
+    let used = shell.used;
+    if buffer.len() < lent {
+        return shell;
+    }
+    let done = act(region, &mut buffer[0..lent], parse(line));
+    finish(done, lent, used, buffer, out)
+}
+
+// Writes the answer, and lends other words if it says so.
+fn finish(done: Step, lent: usize, used: usize, buffer: &mut [u64], out: &mut [u8]) -> Shell
+    requires { ⌜ lent ≤ length (now buffer) ⌝ }
+{
+    let region = done.region;
+    let answer = done.answer;
+    match answer {
+        Answer::Line(line) => Shell {
+            region,
+            lent,
+            used: write(out, used, line),
+        },
+        Answer::Lent(n) => Shell {
+            region,
+            lent: reserve(buffer, n),
+            used: write(out, used, bare(Word::Ok)),
+        },
+        Answer::Text(request) => Shell {
+            region,
+            lent,
+            used: write_text(out, used, request, region, &buffer[0..lent]),
+        },
+    }
+}
+
+// Makes the first `n` words Reserved, as far as there are so many.
+fn reserve(buffer: &mut [u64], n: usize) -> usize {
+    let mut i: usize = 0;
+    while i < n {
+        if buffer.len() <= i {
+            return i;
+        }
+        buffer[i] = RESERVED;
+        i += 1;
+    }
+    i
+}

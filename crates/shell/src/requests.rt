@@ -1,0 +1,176 @@
+// What each request does.
+use crate::MOST_WORDS;
+use crate::record::field;
+use crate::steps::Answer;
+use crate::steps::Step;
+use crate::steps::counted;
+use crate::steps::finished;
+use crate::steps::granted;
+use crate::steps::said;
+use ask::input::Request;
+use ask::names;
+use heap::reads::audit;
+use heap::reads::layout_from_ptr;
+use heap::requests::allocate_file_page;
+use heap::requests::allocate_pages;
+use heap::requests::allocate_slab_page;
+use heap::requests::free_page;
+use heap::requests::get_file_page;
+use heap::requests::put_file_page;
+use heap::start::empty_region;
+use heap::start::root_mem_init;
+use heap::word;
+use region::HeapMemoryRegion;
+use reply::answers::bad;
+use reply::answers::number;
+use reply::answers::of_count;
+use reply::answers::of_decoded;
+use reply::answers::of_done;
+use reply::answers::of_encoded;
+use reply::answers::of_layout;
+use show::answer::Line;
+use show::answer::Word;
+use show::answer::bare;
+use words::place::VirtAddr;
+use words::word::AllocatedInfo;
+use words::word::CompoundInfo;
+use words::word::FileInfo;
+use words::word::FreeInfo;
+use words::word::PageInfo;
+use words::word::ReservedInfo;
+use words::word::SlabPageInfo;
+
+// Does what a request asks for. It is known by its name and the count of its words.
+pub fn act(region: HeapMemoryRegion, words: &mut [u64], request: Request) -> Step {
+    let count = request.count;
+    let values = request.values;
+    let name = values[0];
+    match count {
+        1 => plain(region, words, name),
+        2 => with_number(region, words, name, values[1]),
+        3 => said(region, with_two(words, name, values[1], values[2])),
+        4 => with_three(region, words, name, values[1], values[2], values[3]),
+        _ => said(region, bad()),
+    }
+}
+
+// A name alone.
+fn plain(region: HeapMemoryRegion, words: &mut [u64], name: u64) -> Step {
+    match name {
+        names::FILE => granted(allocate_file_page(region, words)),
+        names::AUDIT => said(region, of_done(audit(region, words))),
+        names::REPORT | names::PRINT | names::LISTS | names::STATE | names::HELP => Step {
+            region,
+            answer: Answer::Text(name),
+        },
+        _ => said(region, bad()),
+    }
+}
+
+// A name and a number.
+fn with_number(region: HeapMemoryRegion, words: &mut [u64], name: u64, n: u64) -> Step {
+    match name {
+        names::ALLOC => granted(allocate_pages(region, words, n as usize)),
+        names::SLAB => granted(allocate_slab_page(region, words, n)),
+        names::FREE => finished(free_page(region, words, VirtAddr(n))),
+        names::GET => said(region, of_count(get_file_page(region, words, VirtAddr(n)))),
+        names::PUT => counted(put_file_page(region, words, VirtAddr(n))),
+        names::WORDS => lend(region, n as usize),
+        _ => said(region, read_with(region, words, name, n)),
+    }
+}
+
+// A name and a number, where nothing changes.
+fn read_with(region: HeapMemoryRegion, words: &[u64], name: u64, n: u64) -> Line {
+    match name {
+        names::LOOKUP => of_layout(layout_from_ptr(region, words, VirtAddr(n))),
+        names::WORD => word_at(words, n as usize),
+        names::DECODE => of_decoded(word::decode(n)),
+        names::ORDER => number(word::get_order(n as usize) as u64),
+        _ => bad(),
+    }
+}
+
+// So many words, all Reserved, and the empty record.
+fn lend(region: HeapMemoryRegion, n: usize) -> Step {
+    if n <= MOST_WORDS {
+        Step {
+            region: empty_region(),
+            answer: Answer::Lent(n),
+        }
+    } else {
+        said(region, bad())
+    }
+}
+
+fn word_at(words: &[u64], i: usize) -> Line {
+    if i < words.len() {
+        bare(Word::Hex(words[i]))
+    } else {
+        bare(Word::Out)
+    }
+}
+
+// A name and two numbers.
+fn with_two(words: &mut [u64], name: u64, x: u64, y: u64) -> Line {
+    match name {
+        names::POKE => poke(words, x as usize, y),
+        _ => bad(),
+    }
+}
+
+fn poke(words: &mut [u64], i: usize, w: u64) -> Line {
+    if i < words.len() {
+        words[i] = w;
+        bare(Word::Ok)
+    } else {
+        bare(Word::Out)
+    }
+}
+
+// A name and three numbers; `field` has a name for the first.
+fn with_three(
+    region: HeapMemoryRegion,
+    words: &mut [u64],
+    name: u64,
+    x: u64,
+    y: u64,
+    z: u64,
+) -> Step {
+    match name {
+        names::SETUP => finished(root_mem_init(VirtAddr(x), y as usize, z as usize, words)),
+        names::FIELD => field(region, x, y as usize, z),
+        names::ENCODE => said(region, encode(x, y, z)),
+        _ => said(region, bad()),
+    }
+}
+
+// The word of raw fields, by the type's number. A field that the type does not have must be 0.
+fn encode(kind: u64, a: u64, b: u64) -> Line {
+    let order = a as usize;
+    if kind == 0 {
+        let next_page = b as usize;
+        return of_info(PageInfo::Free(FreeInfo { next_page, order }));
+    }
+    if b != 0 {
+        return bare(Word::No);
+    }
+    match kind {
+        1 => of_info(PageInfo::Allocated(AllocatedInfo { order })),
+        2 => of_info(PageInfo::Slab(SlabPageInfo { item_size: a })),
+        3 => of_info(PageInfo::Compound(CompoundInfo { order })),
+        4 => of_info(PageInfo::File(FileInfo { ref_count: a })),
+        15 => {
+            if a == 0 {
+                of_info(PageInfo::Reserved(ReservedInfo))
+            } else {
+                bare(Word::No)
+            }
+        }
+        _ => bare(Word::No),
+    }
+}
+
+fn of_info(info: PageInfo) -> Line {
+    of_encoded(word::encode(info))
+}

@@ -1,0 +1,48 @@
+// What a request comes to: the record after it, and the answer.
+use calls::Counted;
+use calls::Finished;
+use calls::Granted;
+use region::HeapMemoryRegion;
+use reply::answers::of_count;
+use reply::answers::of_done;
+use reply::answers::of_grant;
+use show::answer::Line;
+
+pub enum Answer {
+    Line(Line),
+    // So many words are lent from now on.
+    Lent(usize),
+    // What the request of this name asks for, made of the record and the words.
+    Text(u64),
+}
+
+// The record after a request, and the answer.
+pub struct Step {
+    pub region: HeapMemoryRegion,
+    pub answer: Answer,
+}
+
+pub fn said(region: HeapMemoryRegion, line: Line) -> Step {
+    Step {
+        region,
+        answer: Answer::Line(line),
+    }
+}
+
+pub fn granted(call: Granted) -> Step {
+    let region = call.region;
+    let grant = call.answer;
+    said(region, of_grant(grant))
+}
+
+pub fn finished(call: Finished) -> Step {
+    let region = call.region;
+    let done = call.answer;
+    said(region, of_done(done))
+}
+
+pub fn counted(call: Counted) -> Step {
+    let region = call.region;
+    let count = call.answer;
+    said(region, of_count(count))
+}
