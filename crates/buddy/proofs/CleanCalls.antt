@@ -7,14 +7,13 @@ use lib.Dec.{T}
 use Rattle.buddy.specs.Runs.{cell}
 use Rattle.buddy.specs.Heap.{Kind, Heap, SoundHeap, Clean}
 use Rattle.buddy.specs.Steps.{label}
-use Rattle.buddy.specs.Rules.{granted, allocate, freeBlock, freePage, recount}
+use Rattle.buddy.specs.Rules.{freeBlock, freePage, recount}
 use Rattle.buddy.specs.History.{Call, Outcome, call}
 use Rattle.buddy.proofs.RunLaws.{cell-zero}
 use Rattle.buddy.proofs.Tags.{used≢free}
 use Rattle.buddy.proofs.Label.{label-off}
 use Rattle.buddy.proofs.Clean.{High, free-high, high-clean, free-clean}
 use Rattle.buddy.proofs.Grant.{Granted}
-use Rattle.buddy.proofs.Undo.{grant-freed}
 use Rattle.buddy.proofs.Pages.{OutHead, out-block, out-valid, file-out}
 use Rattle.buddy.proofs.Calls.{asks-valid, Called, refuse, grant, return, more, less, last, called}
 
@@ -23,10 +22,6 @@ undone-high : (M : ℕ → Bool) (g h : Heap) (o c : ℕ) → o ≤ 5 → freeBl
 undone-high M g h o c l undo =
     let r : High g h = rw undo at (free-high M (5 - o) g o c (omega arith)) in
     record { lists = λ k a. sym (r .lists k a); counts = λ k a. sym (r .counts k a) }
-
-pub grant-high : {M : ℕ → Bool} {n : ℕ} → ((p : ℕ) → T (M p) → p < n) → (h : Heap) → SoundHeap M n h → (o : ℕ) (g : Heap) (c : ℕ) → o ≤ 5
-    → allocate h o ≡ granted g c → High h g
-grant-high {M} bound h s o g c l e = undone-high M g h o c l (grant-freed bound h s o g c e)
 
 module _ {M : ℕ → Bool} {n : ℕ} (bound : (p : ℕ) → T (M p) → p < n) (h : Heap) (s : SoundHeap M n h) (clean : Clean M h) where
   pub grant-clean : {g : Heap} {o c : ℕ} {k : Kind} → o ≤ 5 → Granted M n h g o c k → freeBlock M (5 - o) g o c ≡ h → Clean M g

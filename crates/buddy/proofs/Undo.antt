@@ -9,7 +9,6 @@ use native.Mathlib.Nat.{zero-add, suc-add}
 use native.Mathlib.Omega.{arith}
 use native.Mathlib.Decide.{ℕ-discrete}
 use lib.Dec.{T}
-use Rattle.ground.specs.Numbers.{update, remove}
 use Rattle.ground.proofs.Tests.{by-test}
 use Rattle.ground.proofs.Lists.{update-same, update-other, remove-same}
 use Rattle.buddy.specs.Runs.{cell, first, Head, buddy}

@@ -4,14 +4,13 @@ use mathlib.Core.Path.{_≡_}
 use mathlib.Core.Logic.{_≢_}
 use mathlib.Core.Bool.{false, _&&_}
 use mathlib.Core.List.{List, [], _∷_}
-use Prim.Native.Nat.{ℕ, _+_, _-_, _*_, _≤_, _<_}
+use Prim.Native.Nat.{ℕ, _+_, _*_, _≤_, _<_}
 use lib.Dec.{leb}
 use Rattle.words.specs.declared.place.PageNumber.{PageNumber}
 use Rattle.words.specs.declared.place.PageAt.the-variants.{Start}
 use Rattle.buddy.specs.Heap.{Heap}
 use Rattle.buddy.specs.Rules.{refused, granted, allocate}
 use Rattle.buddy.specs.History.{Call, ask, askFile, askSlab, give, get, put, Answer, done, page, counted, outcome, call}
-use Rattle.buddy.specs.History as Model
 use Rattle.buddy.proofs.Pages.{OutHead, FilePage}
 use Rattle.region.specs.Pages.{goodItem}
 use Rattle.region.specs.Image.{heapOf}

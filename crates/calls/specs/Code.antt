@@ -1,7 +1,7 @@
 -- What the inner functions of the calls answer and leave, by the steps on a state.
 use Prim.Native.Nat.{ℕ, _<_}
 use mathlib.Core.Path.{_≡_}
-use mathlib.Core.List.{List, []}
+use mathlib.Core.List.{[]}
 use Rattle.words.specs.Place.{addressAt}
 use Rattle.words.specs.declared.place.AddressAt.{AddressAt}
 use Rattle.words.specs.declared.place.VirtAddr.{VirtAddr}

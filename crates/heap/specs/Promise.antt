@@ -2,7 +2,7 @@
 -- soundness first, then the table's checks in the table's order, then the model's rule.
 use Prim.Native.Nat.{ℕ, _+_, _-_, _*_, _%_, _^_}
 use mathlib.Core.Bool.{cond, _&&_}
-use mathlib.Core.List.{List, [], _∷_}
+use mathlib.Core.List.{List, []}
 use lib.Dec.{leb, eqb}
 use lib.ListN.{length, replicate}
 use Rattle.words.specs.Word.{noPage}

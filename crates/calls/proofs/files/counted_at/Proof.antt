@@ -1,8 +1,6 @@
 use borrow.Author.Needs.{needs}
 use Rattle.calls.proofs.files.counted_at.Statement.{statement}
 use Rattle.calls.proofs.files.counted_at.Tie as tie
-use Rattle.calls.proofs.files.counted_at.Reads as reads
-use Rattle.calls.proofs.files.counted_at.Lts as lts
 
 -- src/files.rt:19:33
 enum-known-found : tie.Need-enum-known-found

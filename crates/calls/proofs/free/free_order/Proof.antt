@@ -3,8 +3,6 @@ use Rattle.calls.proofs.Patterns.{other}
 use borrow.Author.Needs.{needs}
 use Rattle.calls.proofs.free.free_order.Statement.{statement}
 use Rattle.calls.proofs.free.free_order.Tie as tie
-use Rattle.calls.proofs.free.free_order.Reads as reads
-use Rattle.calls.proofs.free.free_order.Lts as lts
 
 -- src/free.rt:24:23
 enum-known-said : tie.Need-enum-known-said
