@@ -1,0 +1,4 @@
+pub mod One
+pub mod Packed
+pub mod Refusals
+pub mod Refused

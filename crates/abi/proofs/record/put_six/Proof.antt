@@ -1,0 +1,81 @@
+-- `abi::record::put_six` meets its contract. The loop's invariant: the first `i` of the six are pasted in. Assumes nothing.
+use Prim.Native.Nat.{_+_, _-_, _≤_}
+use mathlib.Core.Path.{_≡_, refl, _∙_}
+use mathlib.Core.List.{append-assoc}
+use native.Mathlib.Numerals.{add-one}
+use native.Mathlib.Omega.{arith}
+use lib.ListN.{length, take, drop, length-set}
+use lib.Seq.{paste, paste-zero, paste-suc, take-all}
+use borrow.Author.Needs.{needs}
+use Rattle.abi.specs.Record.{withSix}
+use Rattle.abi.proofs.record.put_six.Statement.{statement}
+use Rattle.abi.proofs.record.put_six.Tie as tie
+
+abbrev Inv-loop : tie.InvT-loop
+Inv-loop numbers₀ from six i₀ numbers i =
+    (i ≤ 6) × (length numbers ≡ length numbers₀) × (numbers ≡ paste numbers₀ from six i)
+
+abbrev μ-loop : tie.MeasureT-loop
+μ-loop numbers₀ from six i₀ numbers i = 6 - i
+
+loop-holds : tie.Need-loop-holds Inv-loop μ-loop
+loop-holds c = (omega arith, refl, paste-zero (c .args .numbers .now) (c .args .from) (c .args .t3))
+
+mul-numbers : tie.Need-mul-numbers Inv-loop μ-loop
+mul-numbers c = search needs
+
+array-read-numbers : tie.Need-array-read-numbers Inv-loop μ-loop
+array-read-numbers c = search needs
+
+add-numbers : tie.Need-add-numbers Inv-loop μ-loop
+add-numbers c = search needs
+
+mul-numbers-2 : tie.Need-mul-numbers-2 Inv-loop μ-loop
+mul-numbers-2 c = search needs
+
+slice-write-numbers : tie.Need-slice-write-numbers Inv-loop μ-loop
+slice-write-numbers c = search needs
+
+add-i : tie.Need-add-i Inv-loop μ-loop
+add-i c = search needs
+
+loop-less : tie.Need-loop-less Inv-loop μ-loop
+loop-less c = search needs
+
+loop-again : tie.Need-loop-again Inv-loop μ-loop
+loop-again c =
+    let l = c .before .loop in
+    let a = c .before .before .args in
+    let long : length (a .t3) ≡ 6 = c .before .before .good .1 .1 .0 .1 .0 .1 in
+    let next = paste-suc (a .numbers .now) (a .from) (a .t3) (l .i) 0 (omega arith) (omega arith) in
+    (omega arith, length-set (l .numbers) _ _ ∙ l .inv .1, rw (add-one, l .inv .2) next)
+
+same-length : tie.Need-same-length Inv-loop μ-loop
+same-length c = search needs
+
+returns : tie.Need-returns Inv-loop μ-loop
+unfolding withSix
+returns c =
+    let a = c .before .before .args in
+    let long : length (a .t3) ≡ 6 = c .before .before .good .1 .1 .0 .1 .0 .1 in
+    let done : c .before .loop .i ≡ 6 = omega arith in
+    rw (c .before .loop .inv .2, done, take-all 6 (a .t3) (omega arith))
+    (append-assoc (take (a .from) (a .numbers .now)) (a .t3) (drop (a .from + 6) (a .numbers .now)))
+
+pub put-six-spec : {M : Type 1} → statement M
+put-six-spec =
+    tie.close
+    (tie.spec
+    Inv-loop
+    μ-loop
+    loop-holds
+    mul-numbers
+    array-read-numbers
+    add-numbers
+    mul-numbers-2
+    slice-write-numbers
+    add-i
+    loop-less
+    loop-again
+    same-length
+    returns)

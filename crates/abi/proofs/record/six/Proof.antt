@@ -1,0 +1,76 @@
+-- `abi::record::six` meets its contract. The loop's invariant: the first `i` numbers are those from the place on. Assumes nothing.
+use Prim.Native.Nat.{_-_, _≤_, _<_}
+use mathlib.Core.Path.{_≡_, refl, _∙_}
+use mathlib.Core.List.{_++_, append-nil}
+use native.Mathlib.Nat.{zero-add}
+use native.Mathlib.Numerals.{add-one}
+use native.Mathlib.Omega.{arith}
+use lib.ListN.{length, length-set, length-drop, take, drop, replicate}
+use lib.Seq.{paste-suc, getD-drop}
+use borrow.Author.Needs.{needs}
+use Rattle.abi.specs.Record.{sixFrom}
+use Rattle.abi.proofs.record.six.Statement.{statement}
+use Rattle.abi.proofs.record.six.Tie as tie
+
+abbrev Inv-loop : tie.InvT-loop
+Inv-loop numbers from six₀ i₀ six i =
+    (i ≤ 6) × (length six ≡ 6) × (six ≡ take i (drop from numbers) ++ drop i (replicate 6 0))
+
+abbrev μ-loop : tie.MeasureT-loop
+μ-loop numbers from six₀ i₀ six i = 6 - i
+
+loop-holds : tie.Need-loop-holds Inv-loop μ-loop
+loop-holds c = (omega arith, refl, refl)
+
+add-six : tie.Need-add-six Inv-loop μ-loop
+add-six c = search needs
+
+mul-six : tie.Need-mul-six Inv-loop μ-loop
+mul-six c = search needs
+
+shared-slice-read-six : tie.Need-shared-slice-read-six Inv-loop μ-loop
+shared-slice-read-six c = search needs
+
+mul-six-2 : tie.Need-mul-six-2 Inv-loop μ-loop
+mul-six-2 c = search needs
+
+array-write-six : tie.Need-array-write-six Inv-loop μ-loop
+array-write-six c = search needs
+
+add-i : tie.Need-add-i Inv-loop μ-loop
+add-i c = search needs
+
+loop-less : tie.Need-loop-less Inv-loop μ-loop
+loop-less c = search needs
+
+loop-again : tie.Need-loop-again Inv-loop μ-loop
+loop-again c =
+    let l = c .before .before .loop in
+    let a = c .before .before .before .args in
+    let rest = drop (a .from) (a .numbers .now) in
+    let more : l .i < length rest = rw length-drop (omega arith) in
+    let next = simp zero-add at (paste-suc (replicate 6 0) 0 rest (l .i) 0 (omega arith) more) in
+    (omega arith, length-set (l .six) _ _ ∙ l .inv .1, rw (add-one, l .inv .2, ← getD-drop) next)
+
+returns : tie.Need-returns Inv-loop μ-loop
+unfolding sixFrom
+returns c =
+    let done : c .before .loop .i ≡ 6 = omega arith in
+    rw (c .before .loop .inv .2, done) (append-nil _)
+
+pub six-spec : {M : Type 1} → statement M
+six-spec =
+    tie.close
+    (tie.spec
+    Inv-loop
+    μ-loop
+    loop-holds
+    add-six
+    mul-six
+    shared-slice-read-six
+    mul-six-2
+    array-write-six
+    add-i
+    loop-less
+    loop-again
+    returns)
