@@ -1,0 +1,156 @@
+//! The two heaps behind one trait. No call is inlined into a workload, so that both are real calls.
+
+/// A refusal's number, and what it carries.
+pub type Refusal = (u64, Option<u64>);
+/// What a call answers: up to two values.
+pub type Answer = Result<[u64; 2], Refusal>;
+/// Blocks and free blocks of each order.
+pub type Report = Result<[[u64; 6]; 2], Refusal>;
+/// A record, as its fields, and the words.
+pub type State<'a> = ([u64; 3], [[u64; 6]; 3], &'a [u64]);
+
+pub trait Heap {
+    const NAME: &'static str;
+    fn of(pages: u64) -> Self;
+    fn state(&self) -> State<'_>;
+    fn setup(&mut self, start: u64, boot: u64) -> Answer;
+    fn allocate(&mut self, order: u64) -> Answer;
+    fn allocate_file(&mut self) -> Answer;
+    fn allocate_slab(&mut self, item: u64) -> Answer;
+    fn free(&mut self, address: u64) -> Answer;
+    fn get(&mut self, address: u64) -> Answer;
+    fn put(&mut self, address: u64) -> Answer;
+    fn lookup(&self, address: u64) -> Answer;
+    fn report(&self) -> Report;
+    fn audit(&self) -> Answer;
+}
+
+/// The proved heap, by its static library.
+pub type Proved = tingmudra::Heap<'static>;
+/// The heap in plain Rust.
+pub type Plain = heap::Heap<'static>;
+
+fn lent(pages: u64) -> &'static mut [u64] {
+    vec![15; pages as usize].leak()
+}
+
+fn proved(refusal: tingmudra::Refusal) -> Refusal {
+    (refusal.number(), refusal.value())
+}
+
+fn plain(refusal: heap::Refusal) -> Refusal {
+    let (number, value) = refusal.parts();
+    (number.into(), value)
+}
+
+fn none(_: ()) -> [u64; 2] {
+    [0, 0]
+}
+
+fn one(value: u64) -> [u64; 2] {
+    [value, 0]
+}
+
+impl Heap for Proved {
+    const NAME: &'static str = "proved";
+    fn of(pages: u64) -> Self {
+        tingmudra::Heap::new(lent(pages))
+    }
+    fn state(&self) -> State<'_> {
+        let r = &self.region;
+        ([r.start, r.page_count, r.allocated], [r.nr_pages, r.free_pages, r.next_page], self.words)
+    }
+    #[inline(never)]
+    fn setup(&mut self, start: u64, boot: u64) -> Answer {
+        let pages = self.words.len() as u64;
+        self.setup(start, pages, boot).map(none).map_err(proved)
+    }
+    #[inline(never)]
+    fn allocate(&mut self, order: u64) -> Answer {
+        self.allocate(order).map(one).map_err(proved)
+    }
+    #[inline(never)]
+    fn allocate_file(&mut self) -> Answer {
+        self.allocate_file().map(one).map_err(proved)
+    }
+    #[inline(never)]
+    fn allocate_slab(&mut self, item: u64) -> Answer {
+        self.allocate_slab(item).map(one).map_err(proved)
+    }
+    #[inline(never)]
+    fn free(&mut self, address: u64) -> Answer {
+        self.free(address).map(none).map_err(proved)
+    }
+    #[inline(never)]
+    fn get(&mut self, address: u64) -> Answer {
+        self.get(address).map(one).map_err(proved)
+    }
+    #[inline(never)]
+    fn put(&mut self, address: u64) -> Answer {
+        self.put(address).map(one).map_err(proved)
+    }
+    #[inline(never)]
+    fn lookup(&self, address: u64) -> Answer {
+        self.lookup(address).map(|layout| [layout.size, layout.align]).map_err(proved)
+    }
+    #[inline(never)]
+    fn report(&self) -> Report {
+        self.report().map(|report| [report.total_pages, report.free_pages]).map_err(proved)
+    }
+    #[inline(never)]
+    fn audit(&self) -> Answer {
+        self.audit().map(none).map_err(proved)
+    }
+}
+
+impl Heap for Plain {
+    const NAME: &'static str = "plain";
+    fn of(pages: u64) -> Self {
+        heap::Heap { region: Box::leak(Box::new(heap::Region::EMPTY)), words: lent(pages) }
+    }
+    fn state(&self) -> State<'_> {
+        let r = &self.region;
+        ([r.start, r.page_count, r.allocated], [r.nr_pages, r.free_pages, r.next_page], self.words)
+    }
+    #[inline(never)]
+    fn setup(&mut self, start: u64, boot: u64) -> Answer {
+        let pages = self.words.len() as u64;
+        self.setup(start, pages, boot).map(none).map_err(plain)
+    }
+    #[inline(never)]
+    fn allocate(&mut self, order: u64) -> Answer {
+        self.allocate(order).map(one).map_err(plain)
+    }
+    #[inline(never)]
+    fn allocate_file(&mut self) -> Answer {
+        self.allocate_file().map(one).map_err(plain)
+    }
+    #[inline(never)]
+    fn allocate_slab(&mut self, item: u64) -> Answer {
+        self.allocate_slab(item).map(one).map_err(plain)
+    }
+    #[inline(never)]
+    fn free(&mut self, address: u64) -> Answer {
+        self.free(address).map(none).map_err(plain)
+    }
+    #[inline(never)]
+    fn get(&mut self, address: u64) -> Answer {
+        self.get(address).map(one).map_err(plain)
+    }
+    #[inline(never)]
+    fn put(&mut self, address: u64) -> Answer {
+        self.put(address).map(one).map_err(plain)
+    }
+    #[inline(never)]
+    fn lookup(&self, address: u64) -> Answer {
+        self.lookup(address).map(|(size, align)| [size, align]).map_err(plain)
+    }
+    #[inline(never)]
+    fn report(&self) -> Report {
+        self.report().map(|(blocks, free)| [blocks, free]).map_err(plain)
+    }
+    #[inline(never)]
+    fn audit(&self) -> Answer {
+        self.audit().map(none).map_err(plain)
+    }
+}

@@ -1,0 +1,100 @@
+//! Why a call is refused.
+
+use crate::raw::Answer;
+use core::fmt;
+
+/// Document 01's refusals with what they carry, and two of this library's own.
+#[derive(Clone, Copy, Debug, PartialEq, Eq)]
+pub enum Refusal {
+    /// 1, set-up: pages 0 or above 4,096, or another number of words.
+    BadCount,
+    /// 2, set-up: start no multiple of 4,096, or the end above 2^64 - 1.
+    BadStart,
+    /// 3, set-up: more boot pages than pages that are not metadata.
+    TooManyBoot,
+    /// 4: record and words are not sound.
+    Damaged,
+    /// 5, with the order: 6 or above.
+    InvalidPageOrder(u64),
+    /// 6: no free block of that order or a higher one.
+    OutOfMemory,
+    /// 7, with the address: outside the region or, but for lookup, inside a page.
+    InvalidHeapAddress(u64),
+    /// 8, with the address: free of a boot page.
+    BootPage(u64),
+    /// 9, with the address: nothing was granted at its page; lookup: or a file page was.
+    InvalidPageType(u64),
+    /// 10, with the address: no file page.
+    InvalidFilePage(u64),
+    /// 11, with the address: get at count 2^60 - 1.
+    RefFull(u64),
+    /// 12, with the item size: 0 or above 65,535.
+    InvalidItem(u64),
+    /// 13: a record or report of another length; of the calls in [`raw`](crate::raw) only.
+    BadBuffer,
+    /// 14: no word has these fields, or no fields this word.
+    No,
+}
+
+impl Refusal {
+    /// The refusal's number.
+    pub fn number(self) -> u64 {
+        self.parts().0
+    }
+
+    /// The order, address or item size that it carries.
+    pub fn value(self) -> Option<u64> {
+        self.parts().1
+    }
+
+    fn parts(self) -> (u64, Option<u64>) {
+        match self {
+            Refusal::BadCount => (1, None),
+            Refusal::BadStart => (2, None),
+            Refusal::TooManyBoot => (3, None),
+            Refusal::Damaged => (4, None),
+            Refusal::InvalidPageOrder(order) => (5, Some(order)),
+            Refusal::OutOfMemory => (6, None),
+            Refusal::InvalidHeapAddress(address) => (7, Some(address)),
+            Refusal::BootPage(address) => (8, Some(address)),
+            Refusal::InvalidPageType(address) => (9, Some(address)),
+            Refusal::InvalidFilePage(address) => (10, Some(address)),
+            Refusal::RefFull(address) => (11, Some(address)),
+            Refusal::InvalidItem(item) => (12, Some(item)),
+            Refusal::BadBuffer => (13, None),
+            Refusal::No => (14, None),
+        }
+    }
+}
+
+impl fmt::Display for Refusal {
+    fn fmt(&self, f: &mut fmt::Formatter<'_>) -> fmt::Result {
+        write!(f, "refusal {}, {self:?}", self.number())
+    }
+}
+
+impl core::error::Error for Refusal {}
+
+impl Answer {
+    /// The answer's two values, or its refusal.
+    pub fn result(self) -> Result<(u64, u64), Refusal> {
+        Err(match self.number {
+            0 => return Ok((self.value, self.second)),
+            1 => Refusal::BadCount,
+            2 => Refusal::BadStart,
+            3 => Refusal::TooManyBoot,
+            4 => Refusal::Damaged,
+            5 => Refusal::InvalidPageOrder(self.value),
+            6 => Refusal::OutOfMemory,
+            7 => Refusal::InvalidHeapAddress(self.value),
+            8 => Refusal::BootPage(self.value),
+            9 => Refusal::InvalidPageType(self.value),
+            10 => Refusal::InvalidFilePage(self.value),
+            11 => Refusal::RefFull(self.value),
+            12 => Refusal::InvalidItem(self.value),
+            13 => Refusal::BadBuffer,
+            // 14: the library answers no number above it
+            _ => Refusal::No,
+        })
+    }
+}
