@@ -51,44 +51,55 @@ fn one(value: u64) -> [u64; 2] {
     [value, 0]
 }
 
+/// What is written alike for both: `$refused` is how a refusal reads.
+macro_rules! calls {
+    ($refused:ident) => {
+        fn state(&self) -> State<'_> {
+            let r = &self.region;
+            ([r.start, r.page_count, r.allocated], [r.nr_pages, r.free_pages, r.next_page], self.words)
+        }
+        #[inline(never)]
+        fn setup(&mut self, start: u64, boot: u64) -> Answer {
+            let pages = self.words.len() as u64;
+            self.setup(start, pages, boot).map(none).map_err($refused)
+        }
+        #[inline(never)]
+        fn allocate(&mut self, order: u64) -> Answer {
+            self.allocate(order).map(one).map_err($refused)
+        }
+        #[inline(never)]
+        fn allocate_file(&mut self) -> Answer {
+            self.allocate_file().map(one).map_err($refused)
+        }
+        #[inline(never)]
+        fn allocate_slab(&mut self, item: u64) -> Answer {
+            self.allocate_slab(item).map(one).map_err($refused)
+        }
+        #[inline(never)]
+        fn free(&mut self, address: u64) -> Answer {
+            self.free(address).map(none).map_err($refused)
+        }
+        #[inline(never)]
+        fn get(&mut self, address: u64) -> Answer {
+            self.get(address).map(one).map_err($refused)
+        }
+        #[inline(never)]
+        fn put(&mut self, address: u64) -> Answer {
+            self.put(address).map(one).map_err($refused)
+        }
+        #[inline(never)]
+        fn audit(&self) -> Answer {
+            self.audit().map(none).map_err($refused)
+        }
+    };
+}
+
 impl Heap for Proved {
     const NAME: &'static str = "proved";
     fn of(pages: u64) -> Self {
         tingmudra::Heap::new(lent(pages))
     }
-    fn state(&self) -> State<'_> {
-        let r = &self.region;
-        ([r.start, r.page_count, r.allocated], [r.nr_pages, r.free_pages, r.next_page], self.words)
-    }
-    #[inline(never)]
-    fn setup(&mut self, start: u64, boot: u64) -> Answer {
-        let pages = self.words.len() as u64;
-        self.setup(start, pages, boot).map(none).map_err(proved)
-    }
-    #[inline(never)]
-    fn allocate(&mut self, order: u64) -> Answer {
-        self.allocate(order).map(one).map_err(proved)
-    }
-    #[inline(never)]
-    fn allocate_file(&mut self) -> Answer {
-        self.allocate_file().map(one).map_err(proved)
-    }
-    #[inline(never)]
-    fn allocate_slab(&mut self, item: u64) -> Answer {
-        self.allocate_slab(item).map(one).map_err(proved)
-    }
-    #[inline(never)]
-    fn free(&mut self, address: u64) -> Answer {
-        self.free(address).map(none).map_err(proved)
-    }
-    #[inline(never)]
-    fn get(&mut self, address: u64) -> Answer {
-        self.get(address).map(one).map_err(proved)
-    }
-    #[inline(never)]
-    fn put(&mut self, address: u64) -> Answer {
-        self.put(address).map(one).map_err(proved)
-    }
+    calls!(proved);
     #[inline(never)]
     fn lookup(&self, address: u64) -> Answer {
         self.lookup(address).map(|layout| [layout.size, layout.align]).map_err(proved)
@@ -97,10 +108,6 @@ impl Heap for Proved {
     fn report(&self) -> Report {
         self.report().map(|report| [report.total_pages, report.free_pages]).map_err(proved)
     }
-    #[inline(never)]
-    fn audit(&self) -> Answer {
-        self.audit().map(none).map_err(proved)
-    }
 }
 
 impl Heap for Plain {
@@ -108,39 +115,7 @@ impl Heap for Plain {
     fn of(pages: u64) -> Self {
         heap::Heap { region: Box::leak(Box::new(heap::Region::EMPTY)), words: lent(pages) }
     }
-    fn state(&self) -> State<'_> {
-        let r = &self.region;
-        ([r.start, r.page_count, r.allocated], [r.nr_pages, r.free_pages, r.next_page], self.words)
-    }
-    #[inline(never)]
-    fn setup(&mut self, start: u64, boot: u64) -> Answer {
-        let pages = self.words.len() as u64;
-        self.setup(start, pages, boot).map(none).map_err(plain)
-    }
-    #[inline(never)]
-    fn allocate(&mut self, order: u64) -> Answer {
-        self.allocate(order).map(one).map_err(plain)
-    }
-    #[inline(never)]
-    fn allocate_file(&mut self) -> Answer {
-        self.allocate_file().map(one).map_err(plain)
-    }
-    #[inline(never)]
-    fn allocate_slab(&mut self, item: u64) -> Answer {
-        self.allocate_slab(item).map(one).map_err(plain)
-    }
-    #[inline(never)]
-    fn free(&mut self, address: u64) -> Answer {
-        self.free(address).map(none).map_err(plain)
-    }
-    #[inline(never)]
-    fn get(&mut self, address: u64) -> Answer {
-        self.get(address).map(one).map_err(plain)
-    }
-    #[inline(never)]
-    fn put(&mut self, address: u64) -> Answer {
-        self.put(address).map(one).map_err(plain)
-    }
+    calls!(plain);
     #[inline(never)]
     fn lookup(&self, address: u64) -> Answer {
         self.lookup(address).map(|(size, align)| [size, align]).map_err(plain)
@@ -148,9 +123,5 @@ impl Heap for Plain {
     #[inline(never)]
     fn report(&self) -> Report {
         self.report().map(|(blocks, free)| [blocks, free]).map_err(plain)
-    }
-    #[inline(never)]
-    fn audit(&self) -> Answer {
-        self.audit().map(none).map_err(plain)
     }
 }
