@@ -1,6 +1,8 @@
 // A line of the input, taken apart into the names and numbers that its words say.
+ghost use mathlib.Core.Path.{_≡_};
 ghost use Prim.Native.Nat.{_≤_};
 ghost use lib.ListN.{length};
+ghost use Rattle.ask.specs.Line.{blank, runOf, digitOf, numberOf, nameOf, saysAt, none, parsed};
 use crate::names;
 
 // The longest line, without its newline.
@@ -19,7 +21,9 @@ enum Number {
 }
 
 // Takes a line apart: at most four words, and none of them bad.
-pub fn parse(line: &[u8]) -> Request {
+pub fn parse(line: &[u8]) -> Request
+    ensures { λ r. ⌜ r ≡ parsed (now (line .entry)) ⌝ }
+{
     if LONGEST < line.len() {
         return none();
     }
@@ -46,7 +50,9 @@ pub fn parse(line: &[u8]) -> Request {
     Request { count, values }
 }
 
-fn none() -> Request {
+fn none() -> Request
+    ensures { λ r. ⌜ r ≡ none ⌝ }
+{
     Request {
         count: 0,
         values: [0; 4],
@@ -54,7 +60,9 @@ fn none() -> Request {
 }
 
 // What the word number `i` of a request says: a name, hex digits where the request has these, else a number.
-fn word(request: u64, i: usize, word: &[u8]) -> Number {
+fn word(request: u64, i: usize, word: &[u8]) -> Number
+    ensures { λ r. ⌜ r ≡ saysAt request i (now (word .entry)) ⌝ }
+{
     if i == 0 {
         return Number::Is(name(word));
     }
@@ -73,12 +81,12 @@ fn word(request: u64, i: usize, word: &[u8]) -> Number {
 }
 
 // How many bytes at the start are white space, or how many are not.
-fn run(text: &[u8], blank: bool) -> usize
-    ensures { λ r. ⌜ r ≤ length (now (text .entry)) ⌝ }
+fn run(text: &[u8], blanks: bool) -> usize
+    ensures { λ r. ⌜ (r ≤ length (now (text .entry))) × (r ≡ runOf blanks (now (text .entry))) ⌝ }
 {
     let mut i: usize = 0;
     while i < text.len() {
-        if is_blank(text[i]) != blank {
+        if is_blank(text[i]) != blanks {
             return i;
         }
         i += 1;
@@ -87,7 +95,9 @@ fn run(text: &[u8], blank: bool) -> usize
 }
 
 // Space, tab, vertical tab, form feed, carriage return; a newline is in no line.
-fn is_blank(b: u8) -> bool {
+fn is_blank(b: u8) -> bool
+    ensures { λ r. ⌜ r ≡ blank b ⌝ }
+{
     match b {
         b' ' | 9..=13 => true,
         _ => false,
@@ -95,40 +105,44 @@ fn is_blank(b: u8) -> bool {
 }
 
 // A word as names.rt writes names; 0 for one that is none of them.
-fn name(word: &[u8]) -> u64 {
+fn name(word: &[u8]) -> u64
+    ensures { λ r. ⌜ r ≡ nameOf (now (word .entry)) ⌝ }
+{
+    if 7 < word.len() {
+        return 0;
+    }
     let mut n: u64 = 0;
     let mut i: usize = 0;
     while i < word.len() {
-        n = with_letter(n, word[i]);
-        if n == 0 {
+        let b = word[i];
+        if b < b'a' {
             return 0;
         }
+        n = n * 256 + b as u64;
         i += 1;
     }
     n
 }
 
-// The name with one letter more; 0 where no name goes on so.
-fn with_letter(n: u64, b: u8) -> u64 {
-    if n < 0x1_0000_0000_0000 {
-        if b'a' <= b {
-            return n * 256 + b as u64;
-        }
-    }
-    0
-}
-
 // 1 to 20 decimal digits.
-fn decimal(word: &[u8]) -> Number {
+fn decimal(word: &[u8]) -> Number
+    ensures { λ r. ⌜ r ≡ numberOf 10 20 (now (word .entry)) ⌝ }
+{
     digits(word, 10, 20)
 }
 
 // 1 to 16 lower-case hexadecimal digits.
-fn hex(word: &[u8]) -> Number {
+fn hex(word: &[u8]) -> Number
+    ensures { λ r. ⌜ r ≡ numberOf 16 16 (now (word .entry)) ⌝ }
+{
     digits(word, 16, 16)
 }
 
-fn digits(word: &[u8], base: u64, longest: usize) -> Number {
+// 1 to `longest` digits, if what they say fits.
+fn digits(word: &[u8], base: u64, longest: usize) -> Number
+    requires { ⌜ 1 ≤ base ⌝ }
+    ensures { λ r. ⌜ r ≡ numberOf base longest (now (word .entry)) ⌝ }
+{
     if word.len() == 0 {
         return Number::Bad;
     }
@@ -138,28 +152,23 @@ fn digits(word: &[u8], base: u64, longest: usize) -> Number {
     let mut n: u64 = 0;
     let mut i: usize = 0;
     while i < word.len() {
-        let Number::Is(next) = with_digit(n, base, word[i]) else {
+        let d = digit(word[i]);
+        if base <= d {
             return Number::Bad;
-        };
-        n = next;
+        }
+        if (u64::MAX - d) / base < n {
+            return Number::Bad;
+        }
+        n = n * base + d;
         i += 1;
     }
     Number::Is(n)
 }
 
-// The number with one digit more, if it fits.
-fn with_digit(n: u64, base: u64, b: u8) -> Number {
-    let d = digit(b);
-    if d < base {
-        if n <= (u64::MAX - d) / base {
-            return Number::Is(n * base + d);
-        }
-    }
-    Number::Bad
-}
-
 // What a digit counts; 16 for a byte that is none.
-fn digit(b: u8) -> u64 {
+fn digit(b: u8) -> u64
+    ensures { λ r. ⌜ r ≡ digitOf b ⌝ }
+{
     match b {
         b'0'..=b'9' => (b - b'0') as u64,
         b'a'..=b'f' => (b - b'a') as u64 + 10,

@@ -1,4 +1,12 @@
 // What the calls of the heap answer, as lines.
+ghost use mathlib.Core.Path.{_≡_};
+ghost use mathlib.Core.List.{[], _∷_};
+ghost use Prim.Native.Nat.{_<_};
+ghost use Rattle.calls.specs.Told.{ok, done, grant, count, layout, refusal};
+ghost use Rattle.show.specs.Line.{line};
+ghost use Rattle.show.specs.declared.answer.Word.{Word};
+ghost use Rattle.show.specs.declared.answer.Value.{Value};
+ghost use Rattle.reply.specs.Answer.{firstOf, lineOf, pageValue, pageLine, decodedLine, encodedLine};
 use calls::AllocError;
 use calls::Count;
 use calls::Done;
@@ -15,58 +23,76 @@ use words::word::Encoded;
 use words::word::NO_PAGE;
 use words::word::PageInfo;
 
-pub fn bad() -> Line {
+pub fn bad() -> Line
+    ensures { λ r. ⌜ r ≡ line Word.Bad Value.None Value.None ⌝ }
+{
     bare(Word::Bad)
 }
 
 // `ok` and a number.
-pub fn number(n: u64) -> Line {
+pub fn number(n: u64) -> Line
+    ensures { λ r. ⌜ r ≡ lineOf (ok (n ∷ [])) ⌝ }
+{
     with(Word::Ok, Value::Number(n))
 }
 
-pub fn of_grant(grant: Grant) -> Line {
-    match grant {
+pub fn of_grant(answer: Grant) -> Line
+    ensures { λ r. ⌜ r ≡ lineOf (grant answer) ⌝ }
+{
+    match answer {
         Grant::At(address) => number(address.0),
         Grant::Refused(e) => refusal(e),
     }
 }
 
-pub fn of_done(done: Done) -> Line {
-    match done {
+pub fn of_done(answer: Done) -> Line
+    ensures { λ r. ⌜ r ≡ lineOf (done answer) ⌝ }
+{
+    match answer {
         Done::Ok => bare(Word::Ok),
         Done::Refused(e) => refusal(e),
     }
 }
 
-pub fn of_count(count: Count) -> Line {
-    match count {
+pub fn of_count(answer: Count) -> Line
+    ensures { λ r. ⌜ r ≡ lineOf (count answer) ⌝ }
+{
+    match answer {
         Count::Is(n) => number(n),
         Count::Refused(e) => refusal(e),
     }
 }
 
-pub fn of_layout(layout: Layout) -> Line {
-    match layout {
+pub fn of_layout(answer: Layout) -> Line
+    ensures { λ r. ⌜ r ≡ lineOf (layout answer) ⌝ }
+{
+    match answer {
         Layout::Is(l) => with_both(Word::Ok, Value::Number(l.size), Value::Number(l.align)),
         Layout::Refused(e) => refusal(e),
     }
 }
 
-pub fn of_encoded(encoded: Encoded) -> Line {
+pub fn of_encoded(encoded: Encoded) -> Line
+    ensures { λ r. ⌜ r ≡ encodedLine encoded ⌝ }
+{
     match encoded {
         Encoded::Word(w) => with(Word::Ok, Value::Hex(w.0)),
         Encoded::No => bare(Word::No),
     }
 }
 
-pub fn of_decoded(decoded: Decoded) -> Line {
+pub fn of_decoded(decoded: Decoded) -> Line
+    ensures { λ r. ⌜ r ≡ decodedLine decoded ⌝ }
+{
     match decoded {
         Decoded::Info(info) => page(info),
         Decoded::No => bare(Word::No),
     }
 }
 
-fn page(info: PageInfo) -> Line {
+fn page(info: PageInfo) -> Line
+    ensures { λ r. ⌜ r ≡ pageLine info ⌝ }
+{
     match info {
         PageInfo::Free(i) => with_both(
             Word::Free,
@@ -82,29 +108,55 @@ fn page(info: PageInfo) -> Line {
 }
 
 // A refusal by document 01's number ("Answers"), with what it carries.
-pub fn refusal(e: AllocError) -> Line {
+pub fn refusal(e: AllocError) -> Line
+    ensures { λ r. ⌜ r ≡ lineOf (refusal e) ⌝ }
+{
+    with_both(Word::No, Value::Number(refusal_number(e)), carried(e))
+}
+
+fn refusal_number(e: AllocError) -> u64
+    ensures { λ r. ⌜ (r ≡ refusal e .number) × (0 < r) ⌝ }
+{
     match e {
-        AllocError::BadCount => no(1, Value::None),
-        AllocError::BadStart => no(2, Value::None),
-        AllocError::TooManyBoot => no(3, Value::None),
-        AllocError::Damaged => no(4, Value::None),
-        AllocError::InvalidPageOrder(order) => no(5, Value::Number(order as u64)),
-        AllocError::OutOfMemory => no(6, Value::None),
-        AllocError::InvalidHeapAddress(address) => no(7, Value::Number(address.0)),
-        AllocError::BootPage(address) => no(8, Value::Number(address.0)),
-        AllocError::InvalidPageType(address) => no(9, Value::Number(address.0)),
-        AllocError::InvalidFilePage(address) => no(10, Value::Number(address.0)),
-        AllocError::RefFull(address) => no(11, Value::Number(address.0)),
-        AllocError::InvalidItem(item) => no(12, Value::Number(item)),
+        AllocError::BadCount => 1,
+        AllocError::BadStart => 2,
+        AllocError::TooManyBoot => 3,
+        AllocError::Damaged => 4,
+        AllocError::InvalidPageOrder(_) => 5,
+        AllocError::OutOfMemory => 6,
+        AllocError::InvalidHeapAddress(_) => 7,
+        AllocError::BootPage(_) => 8,
+        AllocError::InvalidPageType(_) => 9,
+        AllocError::InvalidFilePage(_) => 10,
+        AllocError::RefFull(_) => 11,
+        AllocError::InvalidItem(_) => 12,
     }
 }
 
-fn no(number: u64, carried: Value) -> Line {
-    with_both(Word::No, Value::Number(number), carried)
+// The page order, address or item that a refusal names.
+fn carried(e: AllocError) -> Value
+    ensures { λ r. ⌜ r ≡ firstOf (refusal e .values) ⌝ }
+{
+    match e {
+        AllocError::BadCount => Value::None,
+        AllocError::BadStart => Value::None,
+        AllocError::TooManyBoot => Value::None,
+        AllocError::Damaged => Value::None,
+        AllocError::InvalidPageOrder(order) => Value::Number(order as u64),
+        AllocError::OutOfMemory => Value::None,
+        AllocError::InvalidHeapAddress(address) => Value::Number(address.0),
+        AllocError::BootPage(address) => Value::Number(address.0),
+        AllocError::InvalidPageType(address) => Value::Number(address.0),
+        AllocError::InvalidFilePage(address) => Value::Number(address.0),
+        AllocError::RefFull(address) => Value::Number(address.0),
+        AllocError::InvalidItem(item) => Value::Number(item),
+    }
 }
 
 // A page number, or none.
-pub fn page_number(page: usize) -> Value {
+pub fn page_number(page: usize) -> Value
+    ensures { λ r. ⌜ r ≡ pageValue page ⌝ }
+{
     if page == NO_PAGE {
         Value::NoPage
     } else {

@@ -1,4 +1,7 @@
 // An answer of one line: a word, and up to two values.
+ghost use mathlib.Core.Path.{_≡_};
+ghost use Rattle.show.specs.Line.{line};
+ghost use Rattle.show.specs.declared.answer.Value.{Value};
 use crate::hex;
 use crate::named;
 use crate::text;
@@ -30,15 +33,21 @@ pub struct Line {
     b: Value,
 }
 
-pub fn bare(word: Word) -> Line {
+pub fn bare(word: Word) -> Line
+    ensures { λ r. ⌜ r ≡ line word Value.None Value.None ⌝ }
+{
     with(word, Value::None)
 }
 
-pub fn with(word: Word, a: Value) -> Line {
+pub fn with(word: Word, a: Value) -> Line
+    ensures { λ r. ⌜ r ≡ line word a Value.None ⌝ }
+{
     with_both(word, a, Value::None)
 }
 
-pub fn with_both(word: Word, a: Value, b: Value) -> Line {
+pub fn with_both(word: Word, a: Value, b: Value) -> Line
+    ensures { λ r. ⌜ r ≡ line word a b ⌝ }
+{
     Line { word, a, b }
 }
 

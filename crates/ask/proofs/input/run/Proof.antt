@@ -1,15 +1,31 @@
--- `ask::input::run` meets its contract. The loop's invariant: `i` is at most the length. Assumes nothing.
-use Prim.Native.Nat.{_≤_, _-_}
-use lib.ListN.{length}
+-- `ask::input::run` meets its contract: what is left of the run is the run of what is left. Assumes nothing.
+use Prim.Native.Nat.{_+_, _-_, _≤_}
+use native.Mathlib.Omega.{arith}
+use native.Mathlib.Nat.{zero-add}
+use mathlib.Core.Path.{_≡_, sym}
+use lib.ListN.{length, drop}
 use borrow.Author.Needs.{needs}
+use borrow.Author.Tests.{not-true, not-false}
+use Rattle.ask.specs.Line.{runOf}
+use Rattle.ask.proofs.Words.{run-more, run-stops, run-ends}
 use Rattle.ask.proofs.input.run.Statement.{statement}
 use Rattle.ask.proofs.input.run.Tie as tie
 
 abbrev Inv-loop : tie.InvT-loop
-Inv-loop text blank i₀ i = i ≤ length text
+Inv-loop text blanks i₀ i = (i ≤ length text) × (runOf blanks text ≡ i + runOf blanks (drop i text))
 
 abbrev μ-loop : tie.MeasureT-loop
-μ-loop text blank i₀ i = length text - i
+μ-loop text blanks i₀ i = length text - i
+
+returns : tie.Need-returns Inv-loop μ-loop
+returns c =
+    let l = c .before .before .before .before .loop in
+    (l .inv .0, run-stops _ _ _ (l .inv .1) _ (omega arith) (c .before .is-blank .ensures) (not-true _ (c .if1 .taken)))
+
+loop-again : tie.Need-loop-again Inv-loop μ-loop
+loop-again c =
+    let l = c .before .before .before .before .loop in
+    (omega arith, run-more _ _ _ (l .inv .1) _ (omega arith) (c .before .is-blank .ensures) (not-false _ (c .if1 .left)))
 
 pub run-spec : {M : Type 1} → statement M
 run-spec =
@@ -17,11 +33,11 @@ run-spec =
     (tie.spec
     Inv-loop
     μ-loop
-    (λ c. search needs)
+    (λ c. (search needs, sym (zero-add _)))
     (λ c. search needs)
     (λ c κs. search needs)
+    returns
     (λ c. search needs)
     (λ c. search needs)
-    (λ c. search needs)
-    (λ c. search needs)
-    (λ c. search needs))
+    loop-again
+    (λ c. let l = c .before .loop in (l .inv .0, run-ends _ _ _ (l .inv .1) (c .loop-test .left))))

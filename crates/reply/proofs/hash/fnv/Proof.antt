@@ -1,27 +1,43 @@
--- `reply::hash::fnv` ends and is safe: `i` is below the length in each turn. Assumes nothing.
-use Prim.Native.Nat.{_-_}
-use lib.ListN.{length}
+-- `reply::hash::fnv` meets its contract. The loop's invariant: the words left, on the hash so far, give the hash of all.
+-- Assumes nothing.
+use Prim.Native.Nat.{_<_, _-_}
+use mathlib.Core.Path.{_≡_, refl}
+use lib.ListN.{length, drop, drop-of-length-le}
+use lib.Seq.{drop-cons}
+use native.Mathlib.Numerals.{add-one}
+use native.Mathlib.Omega.{arith}
 use borrow.Author.Needs.{needs}
+use Rattle.reply.specs.Hash.{withWords, hashOf}
 use Rattle.reply.proofs.hash.fnv.Statement.{statement}
 use Rattle.reply.proofs.hash.fnv.Tie as tie
 
 abbrev Inv-loop : tie.InvT-loop
-Inv-loop words hash₀ i₀ hash i = Unit {0}
+Inv-loop words hash₀ i₀ hash i = withWords hash (drop i words) ≡ hashOf words
 
 abbrev μ-loop : tie.MeasureT-loop
 μ-loop words hash₀ i₀ hash i = length words - i
 
+loop-again : tie.Need-loop-again Inv-loop μ-loop
+loop-again c =
+    let l = c .before .before .before .loop in
+    let words = c .before .before .before .before .before .args .words .now in
+    let h : l .i < length words = omega arith in
+    simp (c .with-word .ensures, add-one) (rw (drop-cons words (l .i) 0 h) at (l .inv))
+
 pub fnv-spec : {M : Type 1} → statement M
+unfolding hashOf
 fnv-spec =
     tie.close
     (tie.spec
     Inv-loop
     μ-loop
-    (λ c. search needs)
+    (λ c. refl)
     (λ c. search needs)
     (λ c. search needs)
     (λ c κs. search needs)
     (λ c. search needs)
     (λ c. search needs)
-    (λ c. search needs)
-    (λ c. search needs))
+    loop-again
+    (λ c.
+    let l = c .before .loop in
+    rw (drop-of-length-le (c .before .before .before .args .words .now) {i = l .i} (omega arith)) at (l .inv)))

@@ -1,14 +1,25 @@
--- `reply::hash::with_word` ends: it takes eight turns. Assumes nothing.
-use Prim.Native.Nat.{_-_}
+-- `reply::hash::with_word` meets its contract. The loop's invariant: the bytes left, on the hash so far, give the hash of all eight.
+-- Assumes nothing.
+use Prim.Native.Nat.{suc, _+_, _-_}
+use mathlib.Core.Path.{_≡_, refl}
+use native.Mathlib.Omega.{arith}
 use borrow.Author.Needs.{needs}
+use Rattle.reply.specs.Hash.{withByte, withBytes}
 use Rattle.reply.proofs.hash.with_word.Statement.{statement}
 use Rattle.reply.proofs.hash.with_word.Tie as tie
 
 abbrev Inv-loop : tie.InvT-loop
-Inv-loop before word hash₀ rest₀ i₀ hash rest i = Unit {0}
+Inv-loop before word hash₀ rest₀ i₀ hash rest i = withBytes (8 - i) hash rest ≡ withBytes 8 before word
 
 abbrev μ-loop : tie.MeasureT-loop
 μ-loop before word hash₀ rest₀ i₀ hash rest i = 8 - i
+
+loop-again : tie.Need-loop-again Inv-loop μ-loop
+unfolding withByte
+loop-again c =
+    let l = c .before .before .loop in
+    let k : 8 - l .i ≡ suc (8 - (l .i + 1)) = omega arith in
+    rw (c .times-prime .ensures) (rw k at (l .inv))
 
 pub with-word-spec : {M : Type 1} → statement M
 with-word-spec =
@@ -16,9 +27,9 @@ with-word-spec =
     (tie.spec
     Inv-loop
     μ-loop
-    (λ c. search needs)
+    (λ c. refl)
     (λ c κs. search needs)
     (λ c. search needs)
     (λ c. search needs)
-    (λ c. search needs)
-    (λ c. search needs))
+    loop-again
+    (λ c. let k : 8 - c .before .loop .i ≡ 0 = omega arith in rw k at (c .before .loop .inv)))

@@ -1,0 +1,4 @@
+mod Cases
+pub mod Asked
+pub mod Numbers
+pub mod Words

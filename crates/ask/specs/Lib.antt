@@ -1,0 +1,2 @@
+-- What a line of the shell's input says.
+pub mod Line

@@ -1,0 +1,2 @@
+-- Answers of one line.
+pub mod Line
