@@ -9,6 +9,7 @@ use calls::Count;
 use calls::Done;
 use calls::Grant;
 use calls::Layout;
+use calls::refusal_number;
 
 // What a call answers: 0 or the number of its refusal, and what it carries, zeros where it carries less.
 #[repr(C)]
@@ -83,27 +84,7 @@ fn of_refusal(e: AllocError) -> Answer
     told(refusal_number(e), carried(e))
 }
 
-// Document 01, "Answers": a refusal's number.
-fn refusal_number(e: AllocError) -> u64
-    ensures { λ r. ⌜ r ≡ refusal e .number ⌝ }
-{
-    match e {
-        AllocError::BadCount => 1,
-        AllocError::BadStart => 2,
-        AllocError::TooManyBoot => 3,
-        AllocError::Damaged => 4,
-        AllocError::InvalidPageOrder(_) => 5,
-        AllocError::OutOfMemory => 6,
-        AllocError::InvalidHeapAddress(_) => 7,
-        AllocError::BootPage(_) => 8,
-        AllocError::InvalidPageType(_) => 9,
-        AllocError::InvalidFilePage(_) => 10,
-        AllocError::RefFull(_) => 11,
-        AllocError::InvalidItem(_) => 12,
-    }
-}
-
-// And the page order, address or item that it names.
+// The page order, address or item that a refusal names.
 fn carried(e: AllocError) -> u64
     ensures { λ r. ⌜ r ≡ getD (refusal e .values) 0 0 ⌝ }
 {

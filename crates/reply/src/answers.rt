@@ -1,7 +1,6 @@
 // What the calls of the heap answer, as lines.
 ghost use mathlib.Core.Path.{_≡_};
 ghost use mathlib.Core.List.{[], _∷_};
-ghost use Prim.Native.Nat.{_<_};
 ghost use Rattle.calls.specs.Told.{ok, done, grant, count, layout, refusal};
 ghost use Rattle.show.specs.Line.{line};
 ghost use Rattle.show.specs.declared.answer.Word.{Word};
@@ -12,6 +11,7 @@ use calls::Count;
 use calls::Done;
 use calls::Grant;
 use calls::Layout;
+use calls::refusal_number;
 use show::answer::Line;
 use show::answer::Value;
 use show::answer::Word;
@@ -112,25 +112,6 @@ pub fn refusal(e: AllocError) -> Line
     ensures { λ r. ⌜ r ≡ lineOf (refusal e) ⌝ }
 {
     with_both(Word::No, Value::Number(refusal_number(e)), carried(e))
-}
-
-fn refusal_number(e: AllocError) -> u64
-    ensures { λ r. ⌜ (r ≡ refusal e .number) × (0 < r) ⌝ }
-{
-    match e {
-        AllocError::BadCount => 1,
-        AllocError::BadStart => 2,
-        AllocError::TooManyBoot => 3,
-        AllocError::Damaged => 4,
-        AllocError::InvalidPageOrder(_) => 5,
-        AllocError::OutOfMemory => 6,
-        AllocError::InvalidHeapAddress(_) => 7,
-        AllocError::BootPage(_) => 8,
-        AllocError::InvalidPageType(_) => 9,
-        AllocError::InvalidFilePage(_) => 10,
-        AllocError::RefFull(_) => 11,
-        AllocError::InvalidItem(_) => 12,
-    }
 }
 
 // The page order, address or item that a refusal names.

@@ -16,7 +16,7 @@ told-requires c κs = search needs
 returns : tie.Need-returns
 returns c =
     let n = c .before .before in
-    simp (c .told .ensures, c .before .carried .ensures, n .refusal-number .ensures, refusal-shape (n .before .args .e) .1)
+    simp (c .told .ensures, c .before .carried .ensures, n .refusal-number .ensures .0, refusal-shape (n .before .args .e) .1)
 
 pub of-refusal-spec : {M : Type 1} → statement M
 of-refusal-spec =
