@@ -11,7 +11,7 @@ use Rattle.buddy.specs.Runs.{cell, first, start, Head, buddy}
 use Rattle.buddy.specs.Heap.{Kind, free, used, slab, file, Tag, Block, SoundHeap, Clean}
 use Rattle.buddy.specs.Rules.{setUp, span}
 use Rattle.buddy.specs.History.{Call, ask, askFile, askSlab, give, get, put, done, page, counted, Outcome, call, Moment, next, after, stillOut, gets, puts, grantedAs}
-use Rattle.buddy.specs.Demand.{Out, Stands, InOne, Clear, StillAs, Demand3, Returns}
+use Rattle.buddy.specs.Demand.{Free, Out, Stands, InOne, Clear, StillAs, Demand3, Returns}
 use Rattle.buddy.proofs.RunLaws.{cell-suc, cell-first, cell-start, head-start, head-is, buddy-half, buddy-not}
 use Rattle.buddy.proofs.Tags.{order-of, kind-of}
 use Rattle.buddy.proofs.Spans.{T-span}
@@ -79,7 +79,7 @@ module _ {M : ℕ → Bool} {n : ℕ} {m : Moment} (bound : (p : ℕ) → T (M p
         let jo : j ≡ o = sym (f .order) ∙ sym (order-of (same-tag j s p f e .1)) in
         (jo, head-is o (cell o p) s (rw jo at (f .head)) (sym (rw jo at e)))
 
-    tile : InOne M m p
+    tile : InOne (Free M m) (Out M m) p
     tile = record {
       order = o;
       head = start o p;

@@ -16,6 +16,15 @@ unfoldable pub pagesIn : (ℕ → ℕ) → ℕ → ℕ
 pagesIn f zero = 0
 pagesIn f (suc k) = pagesIn f k + f k * 2 ^ k
 
+-- page p lies in one block, free or out but not both, and in no other; blocks go by order and first page
+pub record InOne (Free Out : ℕ → ℕ → Type 0) (p : ℕ) : Type 0 where
+  pub order : ℕ
+  pub head : ℕ
+  pub stands : Free order head ⊎ Out order head
+  pub holds : cell order p ≡ cell order head
+  pub only : (o s : ℕ) → Free o s ⊎ Out o s → cell o p ≡ cell o s → (o ≡ order) × (s ≡ head)
+  pub not-both : Free order head → Out order head → ⊥
+
 module _ (M : ℕ → Bool) (m : Moment) where
   -- the block of order o with first page s is free, on its list
   abbrev pub Free : ℕ → ℕ → Type 0
@@ -27,15 +36,6 @@ module _ (M : ℕ → Bool) (m : Moment) where
 
   abbrev pub Stands : ℕ → ℕ → Type 0
   Stands o s = Free o s ⊎ Out o s
-
-  -- page p lies in one block, free or out but not both, and in no other
-  pub record InOne (p : ℕ) : Type 0 where
-    pub order : ℕ
-    pub head : ℕ
-    pub stands : Stands order head
-    pub holds : cell order p ≡ cell order head
-    pub only : (o s : ℕ) → Stands o s → cell o p ≡ cell o s → (o ≡ order) × (s ≡ head)
-    pub not-both : Free order head → Out order head → ⊥
 
   -- the aligned run c of order o is managed and clear of blocks still out
   abbrev pub Clear : ℕ → ℕ → Type 0
@@ -51,7 +51,7 @@ module _ (M : ℕ → Bool) (m : Moment) where
   -- demand 3, at one moment; all managed pages lie below n
   pub record Demand3 (n : ℕ) : Type 0 where
     -- "the blocks still out by that record and the free blocks tile the managed pages, each page once"
-    pub tile : (p : ℕ) → T (M p) → InOne p
+    pub tile : (p : ℕ) → T (M p) → InOne Free Out p
     pub once : (o : ℕ) → Once (stillOut (m .events) o)
     pub aligned : (o s : ℕ) → Stands o s → Head o s
     pub inside : (o s q : ℕ) → Stands o s → cell o q ≡ cell o s → T (M q)

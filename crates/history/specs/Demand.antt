@@ -8,7 +8,7 @@ use Rattle.ground.specs.Numbers.{Once}
 use Rattle.buddy.specs.Runs.{cell, first, Head, buddy}
 use Rattle.buddy.specs.Heap.{file}
 use Rattle.buddy.specs.History.{stillOut, gets, puts, grantedAs}
-use Rattle.buddy.specs.Demand.{pagesIn}
+use Rattle.buddy.specs.Demand.{pagesIn, InOne}
 use Rattle.region.specs.Layout.{endOf}
 use Rattle.region.specs.Image.{heapOf}
 use Rattle.calls.specs.Told.{ok, no}
@@ -34,15 +34,6 @@ module _ (m : Moment) where
   abbrev pub Stands : ℕ → ℕ → Type 0
   Stands o p = Free o p ⊎ Out o p
 
-  -- page p lies in one block, free or out but not both, and in no other
-  pub record InOne (p : ℕ) : Type 0 where
-    pub order : ℕ
-    pub head : ℕ
-    pub stands : Stands order head
-    pub holds : cell order p ≡ cell order head
-    pub only : (o s : ℕ) → Stands o s → cell o p ≡ cell o s → (o ≡ order) × (s ≡ head)
-    pub not-both : Free order head → Out order head → ⊥
-
   -- the aligned run c of 2^o pages is managed and clear of blocks still out
   abbrev pub Clear : ℕ → ℕ → Type 0
   Clear o c = (q : ℕ) → cell o q ≡ c → Managed q × ((j s : ℕ) → Out j s → cell j q ≢ cell j s)
@@ -53,7 +44,7 @@ module _ (m : Moment) where
 
   pub record Demand3 : Type 0 where
     -- "the blocks still out by that record and the free blocks tile the managed pages, each page once"
-    pub tile : (p : ℕ) → Managed p → InOne p
+    pub tile : (p : ℕ) → Managed p → InOne Free Out p
     pub once : (o : ℕ) → Once (stillOut (m .events) o)
     pub aligned : (o p : ℕ) → Stands o p → Head o p
     pub inside : (o p q : ℕ) → Stands o p → cell o q ≡ cell o p → Managed q
