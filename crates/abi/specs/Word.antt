@@ -1,9 +1,6 @@
 -- Page words as numbers: the type's number as document 01's table has it, then order, item size or count, then the next page; 0 where the type
 -- has no such field. 14 stands for the plain "no".
 use Prim.Native.Nat.{ℕ}
-use mathlib.Core.Bool.{cond, _&&_}
-use lib.Dec.{eqb}
-use Rattle.words.specs.Word.{encodeOf}
 use Rattle.words.specs.declared.word.PageInfo.{PageInfo}
 use Rattle.words.specs.declared.word.PageInfo.the-variants.{Free, Allocated, Slab, Compound, File, Reserved}
 use Rattle.words.specs.declared.word.Decoded.{Decoded}
@@ -31,16 +28,3 @@ fieldsOf Decoded.No = fields 14 0 0 0
 abbrev pub encodedOf : Encoded → Answer
 encodedOf (Word w) = record { number = 0; value = w .0; second = 0 }
 encodedOf Encoded.No = record { number = 14; value = 0; second = 0 }
-
--- the word of raw fields: a field that the type does not have must be 0
-unfoldable pub encodeFields : ℕ → ℕ → ℕ → Answer
-encodeFields kind field next =
-    cond (eqb kind 0) (encodedOf (encodeOf (Free (record { «next_page» = next; order = field }))))
-    (cond (eqb next 0)
-    (cond (eqb kind 1) (encodedOf (encodeOf (Allocated (record { order = field }))))
-    (cond (eqb kind 2) (encodedOf (encodeOf (Slab (record { «item_size» = field }))))
-    (cond (eqb kind 3) (encodedOf (encodeOf (Compound (record { order = field }))))
-    (cond (eqb kind 4) (encodedOf (encodeOf (File (record { «ref_count» = field }))))
-    (cond (eqb kind 15 && eqb field 0) (encodedOf (encodeOf (Reserved (record {}))))
-    (encodedOf Encoded.No))))))
-    (encodedOf Encoded.No))

@@ -1,21 +1,16 @@
 // Page words as numbers, and the order of a size.
 ghost use mathlib.Core.Path.{_≡_};
-ghost use Rattle.words.specs.Word.{decodeOf, encodeOf};
+ghost use Rattle.words.specs.Word.{decodeOf};
 ghost use Rattle.words.specs.Order.{orderOf};
-ghost use Rattle.abi.specs.Word.{fieldsOf, encodedOf, encodeFields};
+ghost use Rattle.heap.specs.Fields.{encodeFields};
+ghost use Rattle.abi.specs.Word.{fieldsOf, encodedOf};
 use crate::answer::Answer;
 use heap::word::decode;
-use heap::word::encode;
+use heap::word::encode_fields;
 use heap::word::get_order;
-use words::word::AllocatedInfo;
-use words::word::CompoundInfo;
 use words::word::Decoded;
 use words::word::Encoded;
-use words::word::FileInfo;
-use words::word::FreeInfo;
 use words::word::PageInfo;
-use words::word::ReservedInfo;
-use words::word::SlabPageInfo;
 
 // No word has these fields, or no fields this word: document 01's plain "no".
 pub const NO: u64 = 14;
@@ -61,40 +56,9 @@ fn said(number: u64, kind: u64, field: u64, next: u64) -> Fields
 // The word of raw fields, by the type's number.
 #[no_mangle]
 pub extern "C" fn tingmudra_encode(kind: u64, field: u64, next: u64) -> Answer
-    ensures { λ r. ⌜ r ≡ encodeFields kind field next ⌝ }
+    ensures { λ r. ⌜ r ≡ encodedOf (encodeFields kind field next) ⌝ }
 {
-    let order = field as usize;
-    if kind == 0 {
-        let next_page = next as usize;
-        return of_info(PageInfo::Free(FreeInfo { next_page, order }));
-    }
-    if next != 0 {
-        return of_encoded(Encoded::No);
-    }
-    match kind {
-        1 => of_info(PageInfo::Allocated(AllocatedInfo { order })),
-        2 => of_info(PageInfo::Slab(SlabPageInfo { item_size: field })),
-        3 => of_info(PageInfo::Compound(CompoundInfo { order })),
-        4 => of_info(PageInfo::File(FileInfo { ref_count: field })),
-        15 => reserved(field),
-        _ => of_encoded(Encoded::No),
-    }
-}
-
-fn reserved(field: u64) -> Answer
-    ensures { λ r. ⌜ r ≡ encodeFields 15 field 0 ⌝ }
-{
-    if field == 0 {
-        of_info(PageInfo::Reserved(ReservedInfo))
-    } else {
-        of_encoded(Encoded::No)
-    }
-}
-
-fn of_info(info: PageInfo) -> Answer
-    ensures { λ r. ⌜ r ≡ encodedOf (encodeOf info) ⌝ }
-{
-    of_encoded(encode(info))
+    of_encoded(encode_fields(kind, field, next))
 }
 
 fn of_encoded(encoded: Encoded) -> Answer

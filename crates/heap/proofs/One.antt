@@ -18,6 +18,7 @@ use Rattle.calls.specs.declared.Finished.{Finished}
 use Rattle.calls.specs.declared.Granted.{Granted}
 use Rattle.calls.specs.declared.Counted.{Counted}
 use Rattle.calls.proofs.Answers.{dones, grants, counts, layouts, told-one, result-one}
+use Rattle.heap.specs.Fields.{encodeFields}
 use Rattle.heap.specs.Promise.{emptyRegion, setUpPromise, allocatePromise, filePromise, slabPromise, freePromise, getPromise, putPromise, lookupPromise, auditPromise, reportPromise}
 use Rattle.heap.specs.declared.Report.{Report}
 
@@ -79,6 +80,9 @@ decode-one w x y e f = e ∙ sym f
 
 pub encode-one : (i : PageInfo) → Answers Encoded (λ x. x ≡ encodeOf i)
 encode-one i x y e f = e ∙ sym f
+
+pub fields-one : (kind field next : ℕ) → Answers Encoded (λ x. x ≡ encodeFields kind field next)
+fields-one kind field next x y e f = e ∙ sym f
 
 pub order-one : (s : ℕ) → Answers ℕ (λ x. x ≡ orderOf s)
 order-one s x y e f = e ∙ sym f

@@ -1,5 +1,5 @@
 -- The law of soundness: record and words are sound exactly when they show a sound heap. It holds of any record and any list of numbers; the heap
--- is the one that `heapOf` reads. Assumes nothing.
+-- is the one that `heapOf` reads. The laws at the end are results. Assumes nothing.
 use mathlib.Core.Path.{_≡_, refl, sym, ap, _∙_}
 use mathlib.Core.Logic.{_≢_, _↔_, by-cases}
 use mathlib.Core.List.{List}

@@ -1,5 +1,5 @@
 -- Record and words fix the heap that they show: it is the one read from them, in its tags of managed pages, its lists and its counts.
--- A heap that says nothing more is that heap. Assumes nothing.
+-- A heap that says nothing more is that heap. This is a result. Assumes nothing.
 use mathlib.Core.Path.{_≡_, sym, _∙_}
 use mathlib.Core.Logic.{by-cases}
 use mathlib.Core.Bool.{Bool}

@@ -1,5 +1,5 @@
 -- A heap with its place fixes the record and every word that show it, if the arrays are of six and the words of 64 bits: one meaning has one
--- word, and a list is a table by its values. Assumes nothing.
+-- word, and a list is a table by its values. This is a result. Assumes nothing.
 use mathlib.Core.Path.{_≡_, sym, _∙_}
 use mathlib.Core.Bool.{true}
 use mathlib.Core.List.{List}

@@ -1,5 +1,5 @@
 -- The words with the region's place fix the record: blocks and free blocks are counted by the words, and the head of a list is the one page of
--- it that follows no other. So no damage to the record alone goes unseen. Assumes nothing.
+-- it that follows no other. So no damage to the record alone goes unseen. This is a result. Assumes nothing.
 use mathlib.Core.Path.{_≡_, refl, sym, _∙_}
 use mathlib.Core.Logic.{_≢_, ⊎-elim}
 use mathlib.Core.List.{List, [], _∷_, List·Memᴰ, List·Memᴰ·head, List·Memᴰ·tail, List·Memᴰ·cases-cons, List·Memᴰ·not-nil}

@@ -1,5 +1,5 @@
 -- Set-up by computation, on words that all were 7: the record that it leaves of region R and of small and odd regions, and that record and
--- words of R show what set-up leaves of the heap. Assumes nothing.
+-- words of R show what set-up leaves of the heap. These are results. Assumes nothing.
 use mathlib.Core.Path.{_≡_, refl}
 use mathlib.Core.List.{List, [], _∷_, map}
 use Prim.Native.Nat.{ℕ}

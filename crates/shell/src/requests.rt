@@ -32,13 +32,6 @@ use show::answer::Line;
 use show::answer::Word;
 use show::answer::bare;
 use words::place::VirtAddr;
-use words::word::AllocatedInfo;
-use words::word::CompoundInfo;
-use words::word::FileInfo;
-use words::word::FreeInfo;
-use words::word::PageInfo;
-use words::word::ReservedInfo;
-use words::word::SlabPageInfo;
 
 // Does what a request asks for. It is known by its name and the count of its words.
 pub fn act(region: HeapMemoryRegion, words: &mut [u64], request: Request) -> Step {
@@ -140,37 +133,7 @@ fn with_three(
     match name {
         names::SETUP => finished(root_mem_init(VirtAddr(x), y as usize, z as usize, words)),
         names::FIELD => field(region, x, y as usize, z),
-        names::ENCODE => said(region, encode(x, y, z)),
+        names::ENCODE => said(region, of_encoded(word::encode_fields(x, y, z))),
         _ => said(region, bad()),
     }
-}
-
-// The word of raw fields, by the type's number. A field that the type does not have must be 0.
-fn encode(kind: u64, a: u64, b: u64) -> Line {
-    let order = a as usize;
-    if kind == 0 {
-        let next_page = b as usize;
-        return of_info(PageInfo::Free(FreeInfo { next_page, order }));
-    }
-    if b != 0 {
-        return bare(Word::No);
-    }
-    match kind {
-        1 => of_info(PageInfo::Allocated(AllocatedInfo { order })),
-        2 => of_info(PageInfo::Slab(SlabPageInfo { item_size: a })),
-        3 => of_info(PageInfo::Compound(CompoundInfo { order })),
-        4 => of_info(PageInfo::File(FileInfo { ref_count: a })),
-        15 => {
-            if a == 0 {
-                of_info(PageInfo::Reserved(ReservedInfo))
-            } else {
-                bare(Word::No)
-            }
-        }
-        _ => bare(Word::No),
-    }
-}
-
-fn of_info(info: PageInfo) -> Line {
-    of_encoded(word::encode(info))
 }

@@ -1,0 +1,20 @@
+-- `heap::word::reserved` meets its contract: the test is the one of `encodeFields`. Assumes nothing.
+use borrow.Author.Needs.{needs}
+use borrow.Author.Tests.{eq-eqb, ne-eqb}
+use Rattle.heap.specs.Fields.{encodeFields}
+use Rattle.heap.proofs.word.reserved.Statement.{statement}
+use Rattle.heap.proofs.word.reserved.Tie as tie
+
+encode-requires : tie.Need-encode-requires
+encode-requires c κs = search needs
+
+returns : tie.Need-returns
+unfolding encodeFields
+returns c = simp (c .encode .ensures, eq-eqb _ 0 (c .before .if1 .taken))
+
+returns-2 : tie.Need-returns-2
+unfolding encodeFields
+returns-2 c = simp (ne-eqb _ 0 (c .if1 .left))
+
+pub reserved-spec : {M : Type 1} → statement M
+reserved-spec = tie.close (tie.spec encode-requires returns returns-2)
