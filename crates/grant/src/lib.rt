@@ -91,15 +91,11 @@ pub fn allocate_pages_info(
     let taken = filled.get_next_page(words, order);
     let rest = taken.region;
     let head = taken.head;
-    let Found::At(pfn) = head else {
-        return Granted {
-            region: rest,
-            page: Found::Nothing,
-        };
-    };
-    write_page_info(words, pfn, info);
+    if let Found::At(pfn) = head {
+        write_page_info(words, pfn, info);
+    }
     Granted {
         region: rest,
-        page: Found::At(pfn),
+        page: head,
     }
 }

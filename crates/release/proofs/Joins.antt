@@ -9,7 +9,7 @@ use borrow.Author.Tests.{ne-eqb, ltb-true, ltb-false}
 use Rattle.ground.proofs.Tests.{by-test}
 use Rattle.pages.specs.Said.{said}
 use Rattle.region.specs.Pages.{noOrder, freeOrder, buddyOf}
-use Rattle.region.specs.State.{State, Gives, lower, putHead, PutOk}
+use Rattle.region.specs.State.{State, st, Gives, lower, putHead, PutOk}
 use Rattle.region.specs.Steps.{neighbor, joins, join, tryPage, tryJoin, TryOk, freeFrom, FreeOk}
 use Rattle.region.specs.declared.lists.Found.{Found}
 use Rattle.region.specs.declared.lists.Found.the-variants.{At, Nothing}
@@ -91,15 +91,15 @@ module _ (p o : ℕ) (s : State) where
       (λ h e. rw (add-one o) (rw (e, add-one o) at f))
       (λ h e. let g = rw e at f in (g .0, (λ j. absurd (omega (arith, joins-below j)), λ j. g .1)))
 
-  -- trying gave no page: the block is put on its list in the state s′
+  -- trying gave no page: the block is put on its list in the state s′, of the record as it was and the words that trying left
   pub record Stays (s′ : State) : Type 0 where
     pub ok : FreeOk (5 - o) p o s → PutOk p o s′
     pub freed : freeFrom (5 - o) p o s ≡ putHead p o s′
 
-  pub stays : {s′ : State} {a : Found} → Gives (tryPage p o s) (tryJoin p o s) a s′ → a ≡ Nothing → Stays s′
+  pub stays : {s′ : State} {a : Found} → Gives (tryPage p o s) (tryJoin p o s) a s′ → a ≡ Nothing → Stays (st (s .reg) (s′ .ws))
   stays {s′} tried e =
       let j = try-none (sym (tried .answers) ∙ e) in
-      let same : s′ ≡ s = simp j at (tried .leaves) in
+      let same : st (s .reg) (s′ .ws) ≡ s = rw (simp j at (tried .leaves)) in
       record { ok = λ f. rw same (ok-step f .1 .1 j); freed = free-step ∙ rw (j, same) }
 
   -- trying gave page q: the block there is freed in the state s′, one order up

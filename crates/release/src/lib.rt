@@ -102,11 +102,12 @@ pub fn free_page_order(
     ensures { λ r. ⌜ st r (now (words .exit)) ≡ freeFrom (5 - order) pfn order (st region (now (words .entry))) ⌝ }
 {
     let tried = try_to_merge_page(region, words, pfn, order);
-    let rest = tried.region;
     let page = tried.page;
     let Found::At(new_pfn) = page else {
-        return rest.free_page_raw(words, pfn, order);
+        // What did not merge is as it was.
+        return region.free_page_raw(words, pfn, order);
     };
+    let rest = tried.region;
     free_page_order(rest, words, new_pfn, order + 1)
 }
 

@@ -15,6 +15,13 @@ get-next-page-requires c κs = rw (c .before .before .before .refill-page-list .
 enum-known-head : tie.Need-enum-known-head
 enum-known-head c = search needs
 
+write-page-info-requires : tie.Need-write-page-info-requires
+write-page-info-requires c κs =
+    let head = c .before .before in
+    let took = head .before .before .before .before .before in
+    let some = sym (took .get-next-page .ensures .answers) ∙ head .head .given .1 in
+    rw (took .get-next-page .kept .1 .0) (taken-inside (get-next-page-requires (took .before) κs) some)
+
 enum-told : tie.Need-enum-told
 enum-told c = search needs
 
@@ -24,16 +31,11 @@ same-length c = search needs
 returns : tie.Need-returns
 unfolding grantPage grant
 returns c =
-    let took = c .before .before .before .before .before in
-    let got = rw (took .before .before .before .before .refill-page-list .ensures) at (took .get-next-page .ensures) in
-    simp (sym (got .answers) ∙ c .enum-told .given .1) (record { answers = refl; leaves = got .leaves })
-
-write-page-info-requires : tie.Need-write-page-info-requires
-write-page-info-requires c κs =
-    let head = c .before .before in
+    let head = c .before .before .before .before .before in
     let took = head .before .before .before .before .before in
-    let some = sym (took .get-next-page .ensures .answers) ∙ head .head .given .1 in
-    rw (took .get-next-page .kept .1 .0) (taken-inside (get-next-page-requires (took .before) κs) some)
+    let got = rw (took .before .before .before .before .refill-page-list .ensures) at (took .get-next-page .ensures) in
+    simp (sym (got .answers) ∙ head .head .given .1)
+    (record { answers = refl; leaves = rw (← got .leaves, c .before .before .write-page-info .ensures) })
 
 same-length-2 : tie.Need-same-length-2
 same-length-2 c = search needs
@@ -41,11 +43,9 @@ same-length-2 c = search needs
 returns-2 : tie.Need-returns-2
 unfolding grantPage grant
 returns-2 c =
-    let head = c .before .before .before .before .before in
-    let took = head .before .before .before .before .before in
+    let took = c .before .before .before .before .before in
     let got = rw (took .before .before .before .before .refill-page-list .ensures) at (took .get-next-page .ensures) in
-    simp (sym (got .answers) ∙ head .head .given .1)
-    (record { answers = refl; leaves = rw (← got .leaves, c .before .before .write-page-info .ensures) })
+    simp (sym (got .answers) ∙ c .enum-told .given .1) (record { answers = c .enum-told .given .1; leaves = got .leaves })
 
 pub allocate-pages-info-spec : {M : Type 1} → statement M
 allocate-pages-info-spec =
@@ -54,9 +54,9 @@ allocate-pages-info-spec =
     refill-page-list-requires
     get-next-page-requires
     enum-known-head
+    write-page-info-requires
     enum-told
     same-length
     returns
-    write-page-info-requires
     same-length-2
     returns-2)

@@ -38,7 +38,7 @@ module _ (t : ℕ) where
 
   free-page-raw-requires : lts.Need-free-page-raw-requires (claims t) (own-at t) own.Post
   free-page-raw-requires c κs =
-      let tried = c .before .before .before .before .before .before in
+      let tried = c .before .before .before .before .before in
       stays _ _ _ (tried .try-to-merge-page .ensures) (c .before .enum-told .given .1) .ok (tried .before .before .before .pre .1)
 
   same-length : lts.Need-same-length (claims t) (own-at t) own.Post
@@ -47,18 +47,18 @@ module _ (t : ℕ) where
   returns : lts.Need-returns (claims t) (own-at t) own.Post
   returns c =
       let told = c .before .before .before .before in
-      rw (stays _ _ _ (told .before .before .before .before .before .try-to-merge-page .ensures) (told .enum-told .given .1) .freed)
+      rw (stays _ _ _ (told .before .before .before .before .try-to-merge-page .ensures) (told .enum-told .given .1) .freed)
       (c .before .before .free-page-raw .ensures)
 
   add-free-page-order : lts.Need-add-free-page-order (claims t) (own-at t) own.Post
   add-free-page-order c =
-      let page = c .before .before in
-      omega (arith, goes _ _ _ (page .before .before .before .before .before .try-to-merge-page .ensures) (page .page .given .1) .small)
+      let page = c .before .before .before in
+      omega (arith, goes _ _ _ (page .before .before .before .before .try-to-merge-page .ensures) (page .page .given .1) .small)
 
   free-page-order-requires : lts.Need-free-page-order-requires (claims t) (own-at t) own.Post
   free-page-order-requires c κs =
-      let page = c .before .before in
-      let tried = page .before .before .before .before .before in
+      let page = c .before .before .before in
+      let tried = page .before .before .before .before in
       let g = goes _ _ _ (tried .try-to-merge-page .ensures) (page .page .given .1) in
       (omega (arith, g .small, tried .before .before .before .pre .0), g .ok (tried .before .before .before .pre .1))
 
@@ -67,8 +67,8 @@ module _ (t : ℕ) where
 
   returns-2 : lts.Need-returns-2 (claims t) (own-at t) own.Post
   returns-2 c =
-      let page = c .before .before .before .before .before in
-      rw (goes _ _ _ (page .before .before .before .before .before .try-to-merge-page .ensures) (page .page .given .1) .freed)
+      let page = c .before .before .before .before .before .before in
+      rw (goes _ _ _ (page .before .before .before .before .try-to-merge-page .ensures) (page .page .given .1) .freed)
       (c .before .before .free-page-order .ensures)
 
 pub +free-page-order-spec : {M : Type 1} → statement M
