@@ -7,6 +7,9 @@ pub mod Saying
 pub mod Tiling
 pub mod Listing
 pub mod Buddies
+pub mod Walk
+pub mod Found
+pub mod Order
 pub mod Sound
 pub mod Idle
 pub mod Cases

@@ -30,6 +30,16 @@ sum-next f a p h =
     let g : a + (p - a) ≡ p = omega arith in
     ap (sum f a) e ∙ ap (λ n. sum f a (p - a) + f n) g
 
+-- and after it pages that add nothing, up to u
+pub sum-run :
+    (f : ℕ → ℕ) (a p n u : ℕ) → u ≡ p + 1 + n → a ≤ p → ((q : ℕ) → p < q → q < u → f q ≡ 0) → sum f a (u - a) ≡ sum f a (p - a) + f p
+sum-run f a p zero u e h z = ap (λ k. sum f a (k - a)) (omega arith) ∙ sum-next f a p h
+sum-run f a p (suc n) u e h z =
+    let v = p + 1 + n in
+    ap (λ k. sum f a (k - a)) (omega arith)
+    ∙ sum-next f a v (omega arith)
+    ∙ omega (arith, sum-run f a p n v refl h (λ q l k. z q l (omega arith)), z v (omega arith) (omega arith))
+
 pub sum-most : (f : ℕ → ℕ) (a n : ℕ) → ((p : ℕ) → f p ≤ 1) → sum f a n ≤ n
 unfolding sum
 sum-most f a zero h = omega arith

@@ -21,7 +21,7 @@ use Rattle.audit.specs.Check.{blockAt, tiles}
 use Rattle.audit.proofs.Decisions.{decide-as, decide-eq, decide-le, decide-lt, decide-and}
 use Rattle.audit.proofs.Saying.{decide-say}
 
-free-head : (d : Decoded) → freeOrder d < 6 → headOrder d ≡ freeOrder d
+pub free-head : (d : Decoded) → freeOrder d < 6 → headOrder d ≡ freeOrder d
 free-head (Info (Free fi)) h = refl
 free-head (Info (Allocated ai)) h = absurd (omega arith)
 free-head (Info (Slab si)) h = absurd (omega arith)

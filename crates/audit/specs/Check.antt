@@ -59,13 +59,6 @@ lonely ws a e = all (λ p. not (lowerHalf ws a e (freeOrder (said ws p)) p)) a (
 abbrev pub counts : List ℕ → (ℕ → ℕ) → Bool
 counts ns n = all (λ o. eqb (getD ns o 0) (n o)) 0 6
 
--- both of these, and both counts, by the record
-abbrev pub listsAre : HeapMemoryRegion → List ℕ → ℕ → (ℕ → ℕ) → Bool
-listsAre r ws e n = chains ws (r .allocated) e n (r .«next_page») && lonely ws (r .allocated) e
-
-abbrev pub countsAre : HeapMemoryRegion → (ℕ → ℕ) → (ℕ → ℕ) → Bool
-countsAre r m n = counts (r .«nr_pages») m && counts (r .«free_pages») n
-
 -- the lines of document 01's list; its first line is six
 pub data Line : Type 0 where
   some most long aligned ends fits boot metadata tiled lists buddies totals free : Line

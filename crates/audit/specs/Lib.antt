@@ -1,4 +1,5 @@
 pub mod Decides
 pub mod Check
 pub mod Counts
+pub mod Survey
 pub mod Cases

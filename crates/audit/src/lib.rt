@@ -2,28 +2,26 @@
 // the pages. For the public calls, which audit first. Below it stand `region`, for the record, and `pages`, for the words.
 ghost use mathlib.Core.Path.{_≡_};
 ghost use Prim.Native.Nat.{_≤_};
-ghost use lib.ListN.{getD};
 ghost use Rattle.region.specs.Layout.{allocPages};
 ghost use Rattle.region.specs.State.{room};
-ghost use Rattle.audit.specs.Check.{listsAre, countsAre, every, keeps, numbers, marks, stocks, soundB};
-ghost use Rattle.audit.specs.Counts.{InLimits, Within};
-use counts::Counts;
-use counts::count;
+ghost use Rattle.audit.specs.Check.{every, keeps, numbers, soundB};
+ghost use Rattle.audit.specs.Counts.{InLimits};
+ghost use Rattle.audit.specs.Survey.{edges, inner};
 use counts::same;
-use lists::free_lists;
-use lists::no_buddies;
 use region::HeapMemoryRegion;
 use region::MAX_PAGES;
+use survey::survey;
 use tiles::all_say;
-use tiles::is_tiled;
 use words::place::PAGE_SIZE;
 use words::word::AllocatedInfo;
+use words::word::NO_PAGE;
 use words::word::PageInfo;
 use words::word::ReservedInfo;
 
 pub mod counts;
 pub mod heads;
 pub mod lists;
+pub mod survey;
 pub mod tiles;
 
 // The pages of a region that are not metadata.
@@ -58,46 +56,39 @@ fn numbers_good(region: HeapMemoryRegion, words: &[u64]) -> bool
     region.allocated <= alloc_pages(pages)
 }
 
-// Whether boot and metadata pages are marked as such, and blocks tile the pages between them.
+// Whether boot and metadata pages are marked as such.
 fn marks_good(region: HeapMemoryRegion, words: &[u64]) -> bool
     requires { ⌜ InLimits region (now words) ⌝ }
-    ensures { λ r. ⌜ r ≡ every (keeps region (now (words .entry))) marks ⌝ }
+    ensures { λ r. ⌜ r ≡ every (keeps region (now (words .entry))) edges ⌝ }
 {
-    let from = region.allocated;
     let pages = region.page_count;
     let end = alloc_pages(pages);
     if !all_say(
         words,
         0,
-        from,
+        region.allocated,
         PageInfo::Allocated(AllocatedInfo { order: 0 }),
     ) {
         return false;
     }
-    if !all_say(words, end, pages, PageInfo::Reserved(ReservedInfo)) {
-        return false;
-    }
-    is_tiled(words, from, end)
+    all_say(words, end, pages, PageInfo::Reserved(ReservedInfo))
 }
 
-// Whether the lists hold so many free blocks, and no two free blocks are buddies.
-fn lists_good(region: HeapMemoryRegion, words: &[u64], end: usize, found: Counts) -> bool
-    requires { ⌜ Within (now words) (region .allocated) end ⌝ }
-    ensures { λ r. ⌜ r ≡ listsAre region (now (words .entry)) end (λ o. getD (found .frees) o 0) ⌝ }
+// Whether blocks tile the managed pages, no two free ones are buddies, the counts are right and the lists hold the free blocks.
+fn stocks_good(region: HeapMemoryRegion, words: &[u64]) -> bool
+    requires { ⌜ InLimits region (now words) ⌝ }
+    ensures { λ r. ⌜ r ≡ every (keeps region (now (words .entry))) inner ⌝ }
 {
-    let from = region.allocated;
-    let frees = found.frees;
     let heads = region.next_page;
-    if !free_lists(words, from, end, frees, heads) {
+    let found = survey(
+        words,
+        region.allocated,
+        alloc_pages(region.page_count),
+        heads,
+    );
+    if !found.good {
         return false;
     }
-    no_buddies(words, from, end)
-}
-
-// Whether the counts of the record are those that were found.
-fn counts_good(region: HeapMemoryRegion, found: Counts) -> bool
-    ensures { λ r. ⌜ r ≡ countsAre region (λ o. getD (found .blocks) o 0) (λ o. getD (found .frees) o 0) ⌝ }
-{
     let nr_pages = region.nr_pages;
     let blocks = found.blocks;
     if !same(nr_pages, blocks) {
@@ -105,20 +96,11 @@ fn counts_good(region: HeapMemoryRegion, found: Counts) -> bool
     }
     let free_pages = region.free_pages;
     let frees = found.frees;
-    same(free_pages, frees)
-}
-
-// Whether the lists hold the free blocks, no two of these are buddies, and the counts are right.
-fn stocks_good(region: HeapMemoryRegion, words: &[u64]) -> bool
-    requires { ⌜ InLimits region (now words) ⌝ }
-    ensures { λ r. ⌜ r ≡ every (keeps region (now (words .entry))) stocks ⌝ }
-{
-    let end = alloc_pages(region.page_count);
-    let found = count(words, region.allocated, end);
-    if !lists_good(region, words, end, found) {
+    if !same(free_pages, frees) {
         return false;
     }
-    counts_good(region, found)
+    let at = found.at;
+    same(at, [NO_PAGE; 6])
 }
 
 // Whether record and words are sound.

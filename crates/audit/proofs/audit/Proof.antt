@@ -1,7 +1,7 @@
--- `audit::audit` meets its contract: the three groups of lines are those of `soundB`. Assumes nothing.
+-- `audit::audit` meets its contract: the three groups of lines are all those of `soundB`. Assumes nothing.
 use borrow.Author.Needs.{needs}
-use Rattle.audit.specs.Check.{soundB}
 use Rattle.audit.proofs.Loops.{failed, passed}
+use Rattle.audit.proofs.Order.{sound-order}
 use Rattle.audit.proofs.Sound.{decide-limits}
 use Rattle.audit.proofs.audit.Statement.{statement}
 use Rattle.audit.proofs.audit.Tie as tie
@@ -10,16 +10,15 @@ numbers-good-requires : tie.Need-numbers-good-requires
 numbers-good-requires c κs = search needs
 
 returns : tie.Need-returns
-unfolding soundB
-returns c = rw (failed (c .before .numbers-good .ensures) (c .if1 .taken))
+returns c = rw (sound-order, failed (c .before .numbers-good .ensures) (c .if1 .taken))
 
 marks-good-requires : tie.Need-marks-good-requires
 marks-good-requires c κs = decide-limits _ _ .yes (passed (c .before .numbers-good .ensures) (c .if1 .left))
 
 returns-2 : tie.Need-returns-2
-unfolding soundB
 returns-2 c =
     rw (
+      sound-order,
       passed (c .before .before .before .numbers-good .ensures) (c .before .before .if1 .left),
       failed (c .before .marks-good .ensures) (c .if2 .taken),
     )
@@ -28,9 +27,9 @@ stocks-good-requires : tie.Need-stocks-good-requires
 stocks-good-requires c κs = decide-limits _ _ .yes (passed (c .before .before .before .numbers-good .ensures) (c .before .before .if1 .left))
 
 returns-3 : tie.Need-returns-3
-unfolding soundB
 returns-3 c =
     rw (
+      sound-order,
       passed (c .before .before .before .before .numbers-good .ensures) (c .before .before .before .if1 .left),
       passed (c .before .before .marks-good .ensures) (c .before .if2 .left),
     )

@@ -1,9 +1,9 @@
--- `audit::marks_good` meets its contract: the tests are those of its three lines. Assumes nothing.
+-- `audit::marks_good` meets its contract: the tests are those of its two lines. Assumes nothing.
 use native.Mathlib.Omega.{arith}
 use mathlib.Core.Bool.{and-true}
 use borrow.Author.Needs.{needs}
 use Rattle.audit.specs.Check.{keeps}
-use Rattle.audit.proofs.Limit.{max-pages, limits-within}
+use Rattle.audit.proofs.Limit.{max-pages}
 use Rattle.audit.proofs.Loops.{failed, passed}
 use Rattle.audit.proofs.marks_good.Statement.{statement}
 use Rattle.audit.proofs.marks_good.Tie as tie
@@ -12,7 +12,7 @@ alloc-pages-requires : tie.Need-alloc-pages-requires
 alloc-pages-requires c κs = omega (arith, max-pages)
 
 all-say-requires : tie.Need-all-say-requires
-all-say-requires c κs = omega arith
+all-say-requires c κs = search needs
 
 returns : tie.Need-returns
 unfolding keeps
@@ -25,23 +25,9 @@ returns-2 : tie.Need-returns-2
 unfolding keeps
 returns-2 c =
     rw (
-      ← c .before .before .before .before .alloc-pages .ensures,
-      passed (c .before .before .before .all-say .ensures) (c .before .before .if1 .left),
-      failed (c .before .all-say2 .ensures) (c .if2 .taken),
-    )
-
-is-tiled-requires : tie.Need-is-tiled-requires
-is-tiled-requires c κs =
-    rw (c .before .before .before .before .alloc-pages .ensures) (limits-within _ (c .before .before .before .before .before .before .pre))
-
-returns-3 : tie.Need-returns-3
-unfolding keeps
-returns-3 c =
-    rw (
-      ← c .before .before .before .before .before .alloc-pages .ensures,
-      passed (c .before .before .before .before .all-say .ensures) (c .before .before .before .if1 .left),
-      passed (c .before .before .all-say2 .ensures) (c .before .if2 .left),
-      ← c .is-tiled .ensures,
+      ← c .before .before .before .alloc-pages .ensures,
+      passed (c .before .before .all-say .ensures) (c .before .if1 .left),
+      ← c .all-say2 .ensures,
       and-true,
     )
 
@@ -53,6 +39,4 @@ marks-good-spec =
     all-say-requires
     returns
     all-say-requires-2
-    returns-2
-    is-tiled-requires
-    returns-3)
+    returns-2)

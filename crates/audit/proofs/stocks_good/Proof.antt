@@ -1,46 +1,71 @@
--- `audit::stocks_good` meets its contract: the tests are those of its four lines, since the counts are right. Assumes nothing.
+-- `audit::stocks_good` meets its contract: the tests are those of its five lines, by what the walk found. Assumes nothing.
 use native.Mathlib.Omega.{arith}
 use mathlib.Core.Path.{sym, _∙_}
 use borrow.Author.Needs.{needs}
+use borrow.Author.Tests.{not-true, not-false}
 use Rattle.audit.proofs.Limit.{max-pages, limits-within}
 use Rattle.audit.proofs.Loops.{failed, passed}
-use Rattle.audit.proofs.Tallies.{found-stocks}
+use Rattle.audit.proofs.Found.{found-bad, found-good}
 use Rattle.audit.proofs.stocks_good.Statement.{statement}
 use Rattle.audit.proofs.stocks_good.Tie as tie
 
 alloc-pages-requires : tie.Need-alloc-pages-requires
-alloc-pages-requires c κs = omega (arith, max-pages)
+alloc-pages-requires c κs = omega (arith, max-pages, c .before .before .pre .most)
 
-count-requires : tie.Need-count-requires
-count-requires c κs = rw (c .alloc-pages .ensures) (limits-within _ (c .before .before .pre))
-
-lists-good-requires : tie.Need-lists-good-requires
-lists-good-requires c κs = rw (c .before .alloc-pages .ensures) (limits-within _ (c .before .before .before .pre))
+survey-requires : tie.Need-survey-requires
+survey-requires c κs = rw (c .alloc-pages .ensures) (limits-within _ (c .before .before .before .pre))
 
 returns : tie.Need-returns
 returns c =
-    let b = c .before .before in
-    sym
-    (found-stocks (b .before .before .before .args .region) _ (b .before .alloc-pages .ensures) (b .count .ensures)
-    ∙ rw (failed (c .before .lists-good .ensures) (c .if1 .taken)))
+    let s = c .before .before in
+    sym (found-bad (s .before .before .before .before .args .region) _ (s .before .alloc-pages .ensures) (s .survey .ensures) (not-true _ (c .if1 .taken)))
 
-counts-good-requires : tie.Need-counts-good-requires
-counts-good-requires c κs = search needs
+same-requires : tie.Need-same-requires
+same-requires c κs = search needs
 
 returns-2 : tie.Need-returns-2
 returns-2 c =
-    let b = c .before .before .before in
+    let g = c .before .before .before .before in
+    let s = g .before .before in
     sym
-    (found-stocks (b .before .before .before .args .region) _ (b .before .alloc-pages .ensures) (b .count .ensures)
-    ∙ rw (passed (c .before .before .lists-good .ensures) (c .before .if1 .left)) (sym (c .counts-good .ensures)))
+    (found-good (s .before .before .before .before .args .region) _ (s .before .alloc-pages .ensures) (s .survey .ensures) (not-false _ (g .if1 .left))
+    ∙ rw (failed (c .before .same .ensures) (c .if2 .taken)))
+
+same-requires-2 : tie.Need-same-requires-2
+same-requires-2 c κs = search needs
+
+returns-3 : tie.Need-returns-3
+returns-3 c =
+    let t = c .before .before .before .before in
+    let g = t .before .before .before .before in
+    let s = g .before .before in
+    sym
+    (found-good (s .before .before .before .before .args .region) _ (s .before .alloc-pages .ensures) (s .survey .ensures) (not-false _ (g .if1 .left))
+    ∙ rw (passed (t .before .same .ensures) (t .if2 .left), failed (c .before .same2 .ensures) (c .if3 .taken)))
+
+same-requires-3 : tie.Need-same-requires-3
+same-requires-3 c κs = search needs
+
+returns-4 : tie.Need-returns-4
+returns-4 c =
+    let u = c .before .before in
+    let t = u .before .before .before .before in
+    let g = t .before .before .before .before in
+    let s = g .before .before in
+    sym
+    (found-good (s .before .before .before .before .args .region) _ (s .before .alloc-pages .ensures) (s .survey .ensures) (not-false _ (g .if1 .left))
+    ∙ rw (passed (t .before .same .ensures) (t .if2 .left), passed (u .before .same2 .ensures) (u .if3 .left)) (sym (c .same3 .ensures)))
 
 pub stocks-good-spec : {M : Type 1} → statement M
 stocks-good-spec =
     tie.close
     (tie.spec
     alloc-pages-requires
-    count-requires
-    lists-good-requires
+    survey-requires
     returns
-    counts-good-requires
-    returns-2)
+    same-requires
+    returns-2
+    same-requires-2
+    returns-3
+    same-requires-3
+    returns-4)

@@ -1,0 +1,46 @@
+-- What the walk from block to block asks at each block, what it answers, and which lines that decides.
+use Prim.Native.Nat.{ℕ, _+_, _-_, _%_, _^_, _<_}
+use mathlib.Core.Path.{_≡_}
+use mathlib.Core.Bool.{Bool, true, not, cond, _&&_}
+use mathlib.Core.List.{List, [], _∷_}
+use lib.Dec.{ltb, eqb}
+use lib.ListN.{getD, set}
+use Rattle.words.specs.Word.{noPage}
+use Rattle.pages.specs.Said.{said, nextIn}
+use Rattle.audit.specs.Check.{tiles, isFree, chain, lonely, Line, boot, metadata, tiled, lists, buddies, totals, free}
+use Rattle.audit.specs.Counts.{Counted}
+
+-- a free block of order o at page p, and one of order b that ends there, are buddies: p is no multiple of the size of both together
+unfoldable pub upperHalf : ℕ → ℕ → ℕ → Bool
+upperHalf b o p = ltb b 5 && (eqb o b && not (eqb (p % 2 ^ (b + 1)) 0))
+
+-- the page after p on list o, and e, which is on no list, if p heads no free block of order o
+unfoldable pub pageAfter : List ℕ → ℕ → ℕ → ℕ → ℕ → ℕ
+pageAfter ws a e o p = cond (isFree ws a e o p) (nextIn (said ws p)) e
+
+-- where each list has come to, with list o a page on, if there is one
+abbrev pub stepped : List ℕ → ℕ → ℕ → ℕ → List ℕ → List ℕ
+stepped ws a e o l = set l o (pageAfter ws a e o (getD l o 0))
+
+-- the pages are tiled, and no two free blocks are buddies
+abbrev pub settled : List ℕ → ℕ → ℕ → Bool
+settled ws a e = tiles ws e (e - a) a && lonely ws a e
+
+-- both counts, and where each list has come to: list o, from its head on, has as many free blocks as were counted, and no more, exactly if
+-- it has come to none
+pub record Stocked (ws : List ℕ) (a e : ℕ) (heads bs fs at : List ℕ) : Type 0 where
+  pub counted : Counted ws a e bs fs
+  pub chained : (o : ℕ) → o < 6 → chain ws a e o (getD fs o 0) (getD heads o 0) ≡ eqb (getD at o 0) noPage
+
+-- the answer of the walk, and where that is good, what it found
+pub record Surveyed (ws : List ℕ) (a e : ℕ) (heads : List ℕ) (good : Bool) (bs fs at : List ℕ) : Type 0 where
+  pub answer : good ≡ settled ws a e
+  pub stocked : good ≡ true → Stocked ws a e heads bs fs at
+
+-- the lines on what words say and on lists and counts, as the code takes them: those on the pages around the managed ones, and those on the
+-- managed pages, which the walk decides
+abbrev pub edges : List Line
+edges = boot ∷ metadata ∷ []
+
+abbrev pub inner : List Line
+inner = tiled ∷ buddies ∷ totals ∷ free ∷ lists ∷ []
