@@ -11,7 +11,8 @@ import subprocess
 import tempfile
 
 CALLS = 1000
-AUDIT = "audit::audit"
+AUDIT = "audit::"
+PLAIN = ["list-by-list", "one-walk"]
 WIDE = re.compile(r"\t(?:mov[a-z]+\s.*%[xyz]mm\d+.*\(|mov[a-z]+\s.*\(.*%[xyz]mm\d+|(?:ld|st)u?[rp]\s+q\d+)")
 
 
@@ -57,7 +58,7 @@ def counted(program, heap, work, pages):
 
 
 def per_call(program, archive, work, pages):
-    """Instructions for one work: proved in all, of these in the audit and in copies outside it; then plain in all."""
+    """Instructions for one work: proved in all, of these in the audit and in copies outside it; then each plain heap in all."""
     places = names(program)
     starts = [address for address, _ in places]
     library = {name for _, name in names(archive)}
@@ -66,10 +67,11 @@ def per_call(program, archive, work, pages):
     found = {"proved": sum(at.values()) + copies, "audit": 0, "copies": copies}
     for address, count in at.items():
         name = places[bisect.bisect_right(starts, address) - 1][1]
-        if name == AUDIT:
+        if name.startswith(AUDIT):
             found["audit"] += count
         elif name in library and address in wide:
             found["copies"] += count
-    at, copies = counted(program, "plain", work, pages)
-    found["plain"] = sum(at.values()) + copies
+    for heap in PLAIN:
+        at, copies = counted(program, heap, work, pages)
+        found[heap] = sum(at.values()) + copies
     return {key: count / CALLS for key, count in found.items()}

@@ -1,11 +1,13 @@
 //! The page heap of document 01 in plain Rust: no proofs, in place, words in a slice that the caller lends.
 //!
 //! `word` packs and unpacks page words; `region` is the heap on a record and its words. Every public call of
-//! [`Heap`] but set-up audits the whole region first, as document 01 asks.
+//! [`Heap`] but set-up audits the whole region first, as document 01 asks, by one of the two ways of `audit`.
 
+pub mod audit;
 pub mod region;
 pub mod word;
 
+pub use audit::{Audit, ListByList, OneWalk};
 pub use region::{Heap, Refusal, Region, MAX_ORDER, MAX_PAGES, PAGE_SIZE};
 pub use word::{PageInfo, Word, NO_PAGE};
 

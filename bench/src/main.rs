@@ -94,7 +94,7 @@ fn none(_: &mut Vec<u8>, (): ()) -> io::Result<()> {
 
 impl Shell {
     fn heap(&mut self) -> Heap<'_> {
-        Heap { region: &mut self.region, words: &mut self.words }
+        Heap::new(&mut self.region, &mut self.words)
     }
 
     /// Answers one line, or says that it is no request and changes nothing.

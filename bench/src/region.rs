@@ -1,13 +1,15 @@
 //! The region record and the heap on it: set-up, audit, lists, split, merge, allocate, free, file and slab pages.
 
+use crate::audit::{Audit, ListByList};
 use crate::word::{PageInfo, Word, NO_PAGE};
+use std::marker::PhantomData;
 
 pub const PAGE_SIZE: u64 = 4096;
 pub const MAX_ORDER: usize = 6;
 pub const MAX_PAGES: u64 = 4096;
 
 /// The highest order; its blocks never merge.
-const TOP: usize = MAX_ORDER - 1;
+pub(crate) const TOP: usize = MAX_ORDER - 1;
 
 /// Why a call was refused, by document 01's numbers.
 #[derive(Clone, Copy, Debug, PartialEq, Eq)]
@@ -72,7 +74,7 @@ impl Region {
     };
 
     /// One beyond the last managed page; `page_count` is at most [`MAX_PAGES`].
-    fn alloc_pages(&self) -> usize {
+    pub fn alloc_pages(&self) -> usize {
         (self.page_count - (self.page_count * 8).div_ceil(PAGE_SIZE)) as usize
     }
 
@@ -99,13 +101,18 @@ impl Region {
     }
 }
 
-/// A heap: a record and the words lent to it.
-pub struct Heap<'a> {
+/// A heap: a record and the words lent to it, audited by `A` before every call but set-up.
+pub struct Heap<'a, A = ListByList> {
     pub region: &'a mut Region,
     pub words: &'a mut [u64],
+    audit: PhantomData<A>,
 }
 
-impl Heap<'_> {
+impl<'a, A: Audit> Heap<'a, A> {
+    pub fn new(region: &'a mut Region, words: &'a mut [u64]) -> Heap<'a, A> {
+        Heap { region, words, audit: PhantomData }
+    }
+
     // ------------------------------------------------------------------------------------------------- set-up
 
     /// Makes the region anew, whatever record and words held; on a refusal the record is the empty one.
@@ -154,80 +161,11 @@ impl Heap<'_> {
     // -------------------------------------------------------------------------------------------------- audit
 
     pub fn audit(&self) -> Result<(), Refusal> {
-        if self.is_sound() {
+        if A::is_sound(self.region, self.words) {
             Ok(())
         } else {
             Err(Refusal::Damaged)
         }
-    }
-
-    fn is_sound(&self) -> bool {
-        let region = &*self.region;
-        if !(1..=MAX_PAGES).contains(&region.page_count) || self.words.len() as u64 != region.page_count {
-            return false;
-        }
-        let size = region.page_count * PAGE_SIZE;
-        if region.start % PAGE_SIZE != 0 || region.start.checked_add(size).is_none() {
-            return false;
-        }
-        let end = region.alloc_pages();
-        if region.allocated > end as u64 {
-            return false;
-        }
-        let boot = region.allocated as usize;
-        self.words[..boot].iter().all(|&word| word == Word::allocated(0).0)
-            && self.words[end..].iter().all(|&word| word == Word::RESERVED.0)
-            && self.tally(boot, end) == Some((region.nr_pages, region.free_pages))
-            && (0..MAX_ORDER).all(|order| self.list_is_sound(order))
-    }
-
-    /// The counts of blocks and of free blocks that tile pages `from` up to `to`, if blocks do, and no two free
-    /// buddies stand side by side.
-    fn tally(&self, from: usize, to: usize) -> Option<([u64; MAX_ORDER], [u64; MAX_ORDER])> {
-        let mut blocks = [0; MAX_ORDER];
-        let mut free = [0; MAX_ORDER];
-        let mut page = from;
-        while page < to {
-            let (order, is_free) = match Word(self.words[page]).decode()? {
-                PageInfo::Free { order, .. } => (order, true),
-                PageInfo::Allocated { order } => (order, false),
-                PageInfo::File { count: 1.. } | PageInfo::Slab { item: 1.. } => (0, false),
-                _ => return None,
-            };
-            let next = page + (1 << order);
-            if page % (1 << order) != 0 || next > to {
-                return None;
-            }
-            if self.words[page + 1..next].iter().any(|&word| word != Word::compound(order).0) {
-                return None;
-            }
-            blocks[order] += 1;
-            if is_free {
-                free[order] += 1;
-                // the upper buddy, seen from the lower
-                if order < TOP && page % (2 << order) == 0 && next < to && self.is_free(next, order) {
-                    return None;
-                }
-            }
-            page = next;
-        }
-        Some((blocks, free))
-    }
-
-    /// Whether list `order` holds as many free blocks of that order as the record counts; the rest is sound, so
-    /// that Free words are heads of managed blocks. A list that ends visits no page twice.
-    fn list_is_sound(&self, order: usize) -> bool {
-        let mut page = self.region.next_page[order];
-        for _ in 0..self.region.free_pages[order] {
-            let Some(&word) = usize::try_from(page).ok().and_then(|page| self.words.get(page)) else {
-                return false;
-            };
-            match Word(word).decode() {
-                Some(PageInfo::Free { order: found, next }) if found == order => page = next,
-                _ => return false,
-            }
-        }
-        page == NO_PAGE
     }
 
     // -------------------------------------------------------------------------------------------------- lists
@@ -244,7 +182,7 @@ impl Heap<'_> {
     }
 
     fn is_free(&self, page: usize, order: usize) -> bool {
-        matches!(Word(self.words[page]).decode(), Some(PageInfo::Free { order: found, .. }) if found == order)
+        Word(self.words[page]).next_if_free(order).is_some()
     }
 
     fn push(&mut self, page: usize, order: usize) {

@@ -1,4 +1,5 @@
-//! The two heaps behind one trait. No call is inlined into a workload, so that both are real calls.
+//! The proved heap and the plain one, with either of its audits, behind one trait. No call is inlined into a workload, so that
+//! all are real calls.
 
 /// A refusal's number, and what it carries.
 pub type Refusal = (u64, Option<u64>);
@@ -13,6 +14,7 @@ pub trait Heap {
     const NAME: &'static str;
     fn of(pages: u64) -> Self;
     fn state(&self) -> State<'_>;
+    fn load(&mut self, state: State<'_>);
     fn setup(&mut self, start: u64, boot: u64) -> Answer;
     fn allocate(&mut self, order: u64) -> Answer;
     fn allocate_file(&mut self) -> Answer;
@@ -27,8 +29,9 @@ pub trait Heap {
 
 /// The proved heap, by its static library.
 pub type Proved = tingmudra::Heap<'static>;
-/// The heap in plain Rust.
-pub type Plain = heap::Heap<'static>;
+/// The heap in plain Rust, with an audit that goes list by list, and with one that makes one walk.
+pub type Plain = heap::Heap<'static, heap::ListByList>;
+pub type OneWalk = heap::Heap<'static, heap::OneWalk>;
 
 fn lent(pages: u64) -> &'static mut [u64] {
     vec![15; pages as usize].leak()
@@ -51,12 +54,18 @@ fn one(value: u64) -> [u64; 2] {
     [value, 0]
 }
 
-/// What is written alike for both: `$refused` is how a refusal reads.
+/// What is written alike for all: `$refused` is how a refusal reads.
 macro_rules! calls {
     ($refused:ident) => {
         fn state(&self) -> State<'_> {
             let r = &self.region;
             ([r.start, r.page_count, r.allocated], [r.nr_pages, r.free_pages, r.next_page], self.words)
+        }
+        fn load(&mut self, (numbers, arrays, words): State<'_>) {
+            let r = &mut self.region;
+            [r.start, r.page_count, r.allocated] = numbers;
+            [r.nr_pages, r.free_pages, r.next_page] = arrays;
+            self.words.copy_from_slice(words);
         }
         #[inline(never)]
         fn setup(&mut self, start: u64, boot: u64) -> Answer {
@@ -110,10 +119,10 @@ impl Heap for Proved {
     }
 }
 
-impl Heap for Plain {
-    const NAME: &'static str = "plain";
+impl<A: heap::Audit> Heap for heap::Heap<'static, A> {
+    const NAME: &'static str = A::NAME;
     fn of(pages: u64) -> Self {
-        heap::Heap { region: Box::leak(Box::new(heap::Region::EMPTY)), words: lent(pages) }
+        heap::Heap::new(Box::leak(Box::new(heap::Region::EMPTY)), lent(pages))
     }
     calls!(plain);
     #[inline(never)]

@@ -1,12 +1,14 @@
-//! `ratios`: the proved heap and the plain one in one process. `bench/compare` runs it and writes what it finds down.
+//! `ratios`: the proved heap and the plain ones in one process. `bench/compare` runs it and writes what it finds down;
+//! `bench/damage` has it audit damaged states.
 
 mod both;
+mod damage;
 mod same;
 mod times;
 mod traffic;
 mod works;
 
-use both::{Heap, Plain, Proved};
+use both::{Heap, OneWalk, Plain, Proved};
 use std::process::ExitCode;
 use works::{Stage, WORKS};
 
@@ -16,24 +18,27 @@ const COMPARED: u64 = 20_000;
 
 const HELP: &str = "\
 usage: ratios works                          lists the works: a name, a tab and what it is
-       ratios times                          holds the heaps against each other, then times each work on both
-       ratios drive HEAP WORK PAGES CALLS    does one work on one heap, for callgrind; HEAP is proved or plain
+       ratios times                          holds the heaps against each other, then times each work on all
+       ratios damage STATES                  audits so many states, most of them damaged, by all heaps
+       ratios drive HEAP WORK PAGES CALLS    does one work on one heap, for callgrind
 
-`times` prints a line for each work and size, parted by tabs: WORK, PAGES, then nanoseconds proved and plain of the least
-round, and of the middle one.";
+HEAP is proved, list-by-list or one-walk: the last two are the plain heap with either of its audits. `times` prints a line
+for each work and size, parted by tabs: WORK, PAGES, then nanoseconds of the least round on these three, and of the middle
+one. `damage` prints a line for each kind of damage: its name, the states with it, and how many of these were refused.";
 
 fn times() -> Result<(), String> {
     for pages in SIZES {
-        eprintln!("ratios: {pages} pages: {COMPARED} calls of every kind on both heaps, compared");
-        same::traffic(pages, COMPARED)?;
-        same::works(pages)?;
+        eprintln!("ratios: {pages} pages: {COMPARED} calls of every kind on every heap, compared");
+        same::traffic::<Plain>(pages, COMPARED)?;
+        same::traffic::<OneWalk>(pages, COMPARED)?;
+        same::works::<Plain>(pages)?;
+        same::works::<OneWalk>(pages)?;
     }
     for work in WORKS {
         for pages in SIZES {
             eprintln!("ratios: {work} on {pages} pages");
-            let found = times::measure(work, pages);
-            let ([a, b], [c, d]) = (found.proved, found.plain);
-            println!("{work}\t{pages}\t{a:.1}\t{c:.1}\t{b:.1}\t{d:.1}");
+            let [[a, d], [b, e], [c, f]] = times::measure(work, pages);
+            println!("{work}\t{pages}\t{a:.1}\t{b:.1}\t{c:.1}\t{d:.1}\t{e:.1}\t{f:.1}");
         }
     }
     Ok(())
@@ -52,23 +57,38 @@ fn drive<H: Heap>(work: &str, pages: u64, calls: u64) {
 fn main() -> ExitCode {
     let words: Vec<String> = std::env::args().skip(1).collect();
     let words: Vec<&str> = words.iter().map(String::as_str).collect();
-    match words[..] {
-        ["works"] => WORKS.iter().for_each(|work| println!("{work}\t{}", works::title(work))),
-        ["times"] => {
-            if let Err(difference) = times() {
-                eprintln!("ratios: {difference}");
-                return ExitCode::from(1);
-            }
+    let done = match words[..] {
+        ["works"] => {
+            WORKS.iter().for_each(|work| println!("{work}\t{}", works::title(work)));
+            Ok(())
         }
-        ["drive", heap, work, pages, calls] if WORKS.contains(&work) => match (heap, pages.parse(), calls.parse()) {
-            (Proved::NAME, Ok(pages), Ok(calls)) => drive::<Proved>(work, pages, calls),
-            (Plain::NAME, Ok(pages), Ok(calls)) => drive::<Plain>(work, pages, calls),
+        ["times"] => times(),
+        ["damage", states] => match states.parse() {
+            Ok(states) => damage::compare(states),
+            Err(_) => return usage(2),
+        },
+        ["drive", heap, work, pages, calls] if WORKS.contains(&work) => match (pages.parse(), calls.parse()) {
+            (Ok(pages), Ok(calls)) => {
+                match heap {
+                    Proved::NAME => drive::<Proved>(work, pages, calls),
+                    Plain::NAME => drive::<Plain>(work, pages, calls),
+                    OneWalk::NAME => drive::<OneWalk>(work, pages, calls),
+                    _ => return usage(2),
+                }
+                Ok(())
+            }
             _ => return usage(2),
         },
         ["-h" | "--help"] => return usage(0),
         _ => return usage(2),
+    };
+    match done {
+        Ok(()) => ExitCode::SUCCESS,
+        Err(difference) => {
+            eprintln!("ratios: {difference}");
+            ExitCode::from(1)
+        }
     }
-    ExitCode::SUCCESS
 }
 
 fn usage(status: u8) -> ExitCode {

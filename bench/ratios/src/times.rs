@@ -1,50 +1,59 @@
-//! Times of a work on both heaps, in short rounds that take turns. Each heap's least round counts: what else the machine
+//! Times of a work on every heap, in short rounds that take turns. Each heap's least round counts: what else the machine
 //! does only adds to a round.
 
-use crate::both::{Heap, Plain, Proved};
+use crate::both::{Heap, OneWalk, Plain, Proved};
 use crate::works::Stage;
 use std::time::{Duration, Instant};
 
 const ROUND: Duration = Duration::from_micros(300);
 const ROUNDS: usize = 300;
 
-/// Nanoseconds that one work takes on each heap: the least, and the middle one, of the rounds.
-pub struct Times {
-    pub proved: [f64; 2],
-    pub plain: [f64; 2],
+/// A work on one heap, and the nanoseconds that it took in each round so far.
+struct Timed<'a, H> {
+    stage: Stage<H>,
+    work: &'a str,
+    /// How often the work fits a round.
+    fit: u64,
+    rounds: Vec<f64>,
 }
 
-/// How often a work fits a round.
-fn fitting<H: Heap>(stage: &mut Stage<H>, work: &str) -> u64 {
-    let mut times = 1;
-    loop {
-        let begin = Instant::now();
-        stage.run(work, times);
-        if begin.elapsed() >= ROUND {
-            return times;
+impl<'a, H: Heap> Timed<'a, H> {
+    fn new(work: &'a str, pages: u64) -> Timed<'a, H> {
+        let mut timed = Timed { stage: Stage::new(work, pages), work, fit: 1, rounds: Vec::with_capacity(ROUNDS) };
+        while timed.took() < ROUND {
+            timed.fit *= 2;
         }
-        times *= 2;
+        timed
+    }
+
+    fn took(&mut self) -> Duration {
+        let begin = Instant::now();
+        std::hint::black_box(self.stage.run(self.work, self.fit));
+        begin.elapsed()
+    }
+
+    fn round(&mut self) {
+        let took = self.took();
+        self.rounds.push(took.as_nanos() as f64 / self.fit as f64);
+    }
+
+    /// The least round and the middle one.
+    fn found(mut self) -> [f64; 2] {
+        self.rounds.sort_by(f64::total_cmp);
+        [self.rounds[0], self.rounds[ROUNDS / 2]]
     }
 }
 
-fn round<H: Heap>(stage: &mut Stage<H>, work: &str, times: u64) -> f64 {
-    let begin = Instant::now();
-    std::hint::black_box(stage.run(work, times));
-    begin.elapsed().as_nanos() as f64 / times as f64
-}
-
-fn least_and_middle(mut rounds: Vec<f64>) -> [f64; 2] {
-    rounds.sort_by(f64::total_cmp);
-    [rounds[0], rounds[rounds.len() / 2]]
-}
-
-pub fn measure(work: &str, pages: u64) -> Times {
-    let (mut proved, mut plain) = (Stage::<Proved>::new(work, pages), Stage::<Plain>::new(work, pages));
-    let fit = (fitting(&mut proved, work), fitting(&mut plain, work));
-    let mut rounds = (Vec::with_capacity(ROUNDS), Vec::with_capacity(ROUNDS));
+/// Nanoseconds that a work takes, the least and the middle round, on the proved heap, the plain one that audits list by list,
+/// and the plain one whose audit is one walk.
+pub fn measure(work: &str, pages: u64) -> [[f64; 2]; 3] {
+    let mut proved = Timed::<Proved>::new(work, pages);
+    let mut plain = Timed::<Plain>::new(work, pages);
+    let mut one_walk = Timed::<OneWalk>::new(work, pages);
     for _ in 0..ROUNDS {
-        rounds.0.push(round(&mut proved, work, fit.0));
-        rounds.1.push(round(&mut plain, work, fit.1));
+        proved.round();
+        plain.round();
+        one_walk.round();
     }
-    Times { proved: least_and_middle(rounds.0), plain: least_and_middle(rounds.1) }
+    [proved.found(), plain.found(), one_walk.found()]
 }

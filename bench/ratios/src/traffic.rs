@@ -19,6 +19,10 @@ impl Numbers {
         self.0 ^= self.0 << 17;
         (self.0 >> 11) % limit
     }
+
+    pub fn one_of<T: Copy, const N: usize>(&mut self, choices: [T; N]) -> T {
+        choices[self.below(N as u64) as usize]
+    }
 }
 
 /// One call of any kind; blocks out are kept in `out`.

@@ -21,7 +21,7 @@ impl Numbers {
 fn run(pages: u64, time: Duration) -> (u64, f64) {
     let mut words = vec![15; pages as usize];
     let mut region = Region::EMPTY;
-    let mut heap = Heap { region: &mut region, words: &mut words };
+    let mut heap: Heap = Heap::new(&mut region, &mut words);
     heap.setup(1 << 20, pages, 3).expect("a set-up that fits");
     let mut numbers = Numbers(88_172_645_463_325_252);
     let mut out = Vec::new();
