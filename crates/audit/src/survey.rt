@@ -25,10 +25,10 @@ pub struct Findings {
 fn is_upper_half(before: usize, order: usize, pfn: usize) -> bool
     ensures { λ r. ⌜ r ≡ upperHalf before order pfn ⌝ }
 {
-    if MAX_ORDER - 1 <= before {
+    if order != before {
         return false;
     }
-    if order != before {
+    if MAX_ORDER - 1 <= before {
         return false;
     }
     pfn % size(before + 1) != 0

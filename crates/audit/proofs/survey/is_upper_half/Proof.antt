@@ -1,6 +1,7 @@
 -- `audit::survey::is_upper_half` meets its contract: the tests are those of `upperHalf`. Assumes nothing.
 use Prim.Native.Nat.{_+_}
 use native.Mathlib.Omega.{arith}
+use mathlib.Core.Bool.{and-false}
 use lib.Pow.{pow-pos}
 use borrow.Author.Needs.{needs}
 use borrow.Author.Tests.{lt-ltb, le-ltb, eq-eqb, ne-eqb}
@@ -8,16 +9,16 @@ use Rattle.audit.specs.Survey.{upperHalf}
 use Rattle.audit.proofs.survey.is_upper_half.Statement.{statement}
 use Rattle.audit.proofs.survey.is_upper_half.Tie as tie
 
-sub-if1 : tie.Need-sub-if1
-sub-if1 c = search needs
-
 returns : tie.Need-returns
 unfolding upperHalf
-returns c = simp (le-ltb _ _ (c .if1 .taken))
+returns c = simp (ne-eqb _ _ (c .if1 .taken), and-false)
+
+sub-if2 : tie.Need-sub-if2
+sub-if2 c = search needs
 
 returns-2 : tie.Need-returns-2
 unfolding upperHalf
-returns-2 c = simp (lt-ltb _ _ (c .before .if1 .left), ne-eqb _ _ (c .if2 .taken))
+returns-2 c = simp (le-ltb _ _ (c .if2 .taken))
 
 add-size : tie.Need-add-size
 add-size c = search needs
@@ -30,8 +31,8 @@ rem-result c = omega (arith, c .size .ensures, pow-pos (c .before .before .befor
 
 returns-3 : tie.Need-returns-3
 unfolding upperHalf
-returns-3 c = simp (lt-ltb _ _ (c .before .before .if1 .left), eq-eqb _ _ (c .before .if2 .left), c .size .ensures)
+returns-3 c = simp (eq-eqb _ _ (c .before .before .if1 .left), lt-ltb _ _ (c .before .if2 .left), c .size .ensures)
 
 pub is-upper-half-spec : {M : Type 1} → statement M
 is-upper-half-spec =
-    tie.close (tie.spec sub-if1 returns returns-2 add-size size-requires rem-result returns-3)
+    tie.close (tie.spec returns sub-if2 returns-2 add-size size-requires rem-result returns-3)
