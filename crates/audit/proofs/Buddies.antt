@@ -61,6 +61,12 @@ either-half o q h =
           rw (n, z) (ne-eqb (1 * 2 ^ o) 0 (omega (arith, pow-pos o)) ∙ sym (ap not (eq-eqb (0 * 2 ^ o) 0 (omega arith))))
     ])
 
+-- what is not free is no upper half
+pub used-half : (b o p : ℕ) → 6 ≤ o → upperHalf b o p ≡ false
+unfolding upperHalf
+used-half b o p h =
+    elim (ℕ-discrete o b) [ yes e ↦ simp (le-ltb b 5 (omega arith)) | no n ↦ simp (ne-eqb o b n, and-false) ]
+
 -- the place of a block of order b that ends at page p; b may be no order, and then nothing is said
 pub record Before (b p : ℕ) : Type 0 where
   pub fits : b < 6 → 2 ^ b ≤ p

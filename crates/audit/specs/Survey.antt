@@ -1,14 +1,15 @@
 -- What the walk from block to block asks at each block, what it answers, and which lines that decides.
-use Prim.Native.Nat.{ℕ, _+_, _-_, _%_, _^_, _<_}
+use Prim.Native.Nat.{ℕ, _+_, _-_, _%_, _^_, _≤_, _<_}
 use mathlib.Core.Path.{_≡_}
 use mathlib.Core.Bool.{Bool, true, not, cond, _&&_}
 use mathlib.Core.List.{List, [], _∷_}
 use lib.Dec.{ltb, eqb}
-use lib.ListN.{getD, set}
+use lib.ListN.{length, getD, set}
 use Rattle.words.specs.Word.{noPage}
 use Rattle.pages.specs.Said.{said, nextIn}
+use Rattle.region.specs.State.{room}
 use Rattle.audit.specs.Check.{tiles, isFree, chain, lonely, Line, boot, metadata, tiled, lists, buddies, totals, free}
-use Rattle.audit.specs.Counts.{Counted}
+use Rattle.audit.specs.Counts.{oneMore, Counted}
 
 -- a free block of order o at page p, and one of order b that ends there, are buddies: p is no multiple of the size of both together
 unfoldable pub upperHalf : ℕ → ℕ → ℕ → Bool
@@ -21,6 +22,19 @@ pageAfter ws a e o p = cond (isFree ws a e o p) (nextIn (said ws p)) e
 -- where each list has come to, with list o a page on, if there is one
 abbrev pub stepped : List ℕ → ℕ → ℕ → ℕ → List ℕ → List ℕ
 stepped ws a e o l = set l o (pageAfter ws a e o (getD l o 0))
+
+-- what a note of a block of order o asks for: pages below e, and room for one more
+pub record NoteOk (ws : List ℕ) (e o : ℕ) (fs at : List ℕ) : Type 0 where
+  pub ends : e ≤ length ws
+  pub counts : length fs ≡ 6
+  pub few : getD fs o 0 < room
+  pub lists : length at ≡ 6
+
+-- a block at page p, free of order o: whether it is no upper half, and if so, one free block more and its list a page on
+pub record Noted (ws : List ℕ) (a e b o p : ℕ) (fs at : List ℕ) (good : Bool) (fs′ at′ : List ℕ) : Type 0 where
+  pub answer : good ≡ not (upperHalf b o p)
+  pub counted : good ≡ true → fs′ ≡ oneMore fs o
+  pub listed : good ≡ true → at′ ≡ stepped ws a e o at
 
 -- the pages are tiled, and no two free blocks are buddies
 abbrev pub settled : List ℕ → ℕ → ℕ → Bool

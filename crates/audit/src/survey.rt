@@ -1,7 +1,7 @@
 // One walk from block to block: the tiling, the buddies, the counts and the lists at once.
 ghost use mathlib.Core.Path.{_≡_};
 ghost use Rattle.audit.specs.Counts.{Within};
-ghost use Rattle.audit.specs.Survey.{upperHalf, Surveyed};
+ghost use Rattle.audit.specs.Survey.{upperHalf, NoteOk, Noted, Surveyed};
 use crate::counts::add_one;
 use crate::heads::free_order;
 use crate::heads::head_order;
@@ -20,8 +20,8 @@ pub struct Findings {
     pub at: [usize; 6],
 }
 
-// Whether a block at `pfn`, free of `order`, and the one that ends there, free of order `before`, are buddies; an order is MAX_ORDER if its
-// block is not free.
+// Whether a block at `pfn`, free of `order`, and the one that ends there, free of order `before`, are buddies. Here and below the order of a
+// block that is not free is MAX_ORDER.
 fn is_upper_half(before: usize, order: usize, pfn: usize) -> bool
     ensures { λ r. ⌜ r ≡ upperHalf before order pfn ⌝ }
 {
@@ -32,6 +32,31 @@ fn is_upper_half(before: usize, order: usize, pfn: usize) -> bool
         return false;
     }
     pfn % size(before + 1) != 0
+}
+
+// Takes note of a block at `pfn`, free of `order`: counts it, takes its list a page on, and says whether it is no upper half.
+fn note_free(
+    words: &[u64],
+    from: usize,
+    end: usize,
+    before: usize,
+    order: usize,
+    pfn: usize,
+    frees: &mut [usize; 6],
+    at: &mut [usize; 6],
+) -> bool
+    requires { ⌜ NoteOk (now words) end order (now frees) (now at) ⌝ }
+    ensures { λ r. ⌜ Noted (now (words .entry)) from end before order pfn (now (frees .entry)) (now (at .entry)) r (now (frees .exit)) (now (at .exit)) ⌝ }
+{
+    if MAX_ORDER <= order {
+        return true;
+    }
+    if is_upper_half(before, order, pfn) {
+        return false;
+    }
+    add_one(frees, order);
+    step(words, from, end, order, at);
+    true
 }
 
 // Walks from block to block, from `from` up to `end`; `heads` are those of the lists.
@@ -54,12 +79,10 @@ pub fn survey(words: &[u64], from: usize, end: usize, heads: [usize; 6]) -> Find
             break false;
         }
         let free = free_order(said);
-        if is_upper_half(before, free, pfn) {
+        if !note_free(words, from, end, before, free, pfn, &mut frees, &mut at) {
             break false;
         }
         add_one(&mut blocks, order);
-        add_one(&mut frees, free);
-        step(words, from, end, free, &mut at);
         before = free;
         pfn += size(order);
     };

@@ -6,6 +6,7 @@ use mathlib.Core.Bool.{true}
 use denote.Ref.{now}
 use lib.Pow.{pow-pos}
 use borrow.Author.Needs.{needs}
+use borrow.Author.Tests.{not-true, not-false}
 use Rattle.pages.specs.Said.{said}
 use Rattle.region.specs.Pages.{headOrder}
 use Rattle.audit.specs.Check.{blockAt}
@@ -38,27 +39,25 @@ block-at-requires c κs =
 free-order-requires : tie.Need-free-order-requires Inv-loop μ-loop
 free-order-requires c κs = search needs
 
-is-upper-half-requires : tie.Need-is-upper-half-requires Inv-loop μ-loop
-is-upper-half-requires c κs = search needs
+note-free-requires : tie.Need-note-free-requires Inv-loop μ-loop
+note-free-requires c κs =
+    let w = c .before .before .before .before .before .before .before .before .before .before .pre in
+    let i = c .before .before .before .before .before .before .before .before .loop .inv in
+    record {
+      ends = w .ends;
+      counts = i .frees .long;
+      few = omega (arith, tally-most _ _ (i .frees) (c .before .before .free-order .result), w .few, i .upto);
+      lists = i .lists .long;
+    }
 
 add-one-requires : tie.Need-add-one-requires Inv-loop μ-loop
 add-one-requires c κs =
-    let l = c .before .before .before .before .before .before .before .before .before in
-    let t = l .loop .inv .blocks in
-    (t .long, omega (arith, tally-most _ _ t (c .before .before .before .before .before .before .head-order .result), l .before .before .pre .few, l .loop .inv .upto))
+    let i = c .before .before .before .before .before .before .before .before .before .before .before .loop .inv in
+    (i .blocks .long, omega (arith, tally-most _ _ (i .blocks) (c .before .before .before .before .before .before .before .before .head-order .result), c .before .before .before .before .before .before .before .before .before .before .before .before .before .pre .few, i .upto))
 
-add-one-requires-2 : tie.Need-add-one-requires-2 Inv-loop μ-loop
-add-one-requires-2 c κs =
-    let l = c .before .before .before .before .before .before .before .before .before .before .before in
-    let t = l .loop .inv .frees in
-    (t .long, omega (arith, tally-most _ _ t (c .before .before .before .before .before .free-order .result), l .before .before .pre .few, l .loop .inv .upto))
-
-step-requires : tie.Need-step-requires Inv-loop μ-loop
-step-requires c κs = let l = c .before .before .before .before .before .before .before .before .before .before .before .before .before in (l .before .before .pre .ends, l .loop .inv .lists .long)
-
--- the place after the test for a block, from where the lists have been taken on
-abbrev tested : tie.After-step Inv-loop μ-loop → tie.Else2 Inv-loop μ-loop
-tested c = c .before .before .before .before .before .before .before .before .before
+-- the place after the test for a block, from where the block has been counted
+abbrev tested : tie.After-add-one Inv-loop μ-loop → tie.Else2 Inv-loop μ-loop
+tested c = c .before .before .before .before .before .before .before
 
 -- a block stands here
 stands :
@@ -90,14 +89,14 @@ loop-less c =
 
 loop-again : tie.Need-loop-again Inv-loop μ-loop
 loop-again c =
-    let s = c .before in
-    let half = s .before .before .before .before .before .before .before in
-    let free = half .before .free-order .ensures in
-    let t = tested s in
+    let n = c .before .before .before .before .note-free .ensures in
+    let none = passed (n .answer) (c .before .before .before .if3 .left) in
+    let good = n .answer ∙ none in
+    let free = c .before .before .before .before .before .before .before .free-order .ensures in
+    let t = tested (c .before) in
     let read = t .before .before .before .read-page-info .ensures in
-    rw (c .size .ensures, s .step .ensures, s .before .before .add-one2 .ensures, s .before .before .before .before .add-one .ensures, free, t .before .before .head-order .ensures, read)
-    (walk-more _ _ _ (t .before .before .before .before .before .loop .inv) (t .before .before .before .before .before .before .before .pre) (t .before .before .before .before .if1 .left) (stands t)
-    (rw (← read, ← free, ← half .is-upper-half .ensures, s .before .before .before .before .before .before .if3 .left)))
+    rw (c .size .ensures, c .before .add-one .ensures, n .counted good, n .listed good, free, t .before .before .head-order .ensures, read)
+    (walk-more _ _ _ (t .before .before .before .before .before .loop .inv) (t .before .before .before .before .before .before .before .pre) (t .before .before .before .before .if1 .left) (stands t) (rw (← read, ← free) (not-true _ none)))
 
 returns : tie.Need-returns Inv-loop μ-loop
 returns c = walk-ends _ _ _ (c .before .loop .inv) (c .if1 .taken)
@@ -109,8 +108,9 @@ returns-2 c =
 
 returns-3 : tie.Need-returns-3 Inv-loop μ-loop
 returns-3 c =
-    a-half _ _ _ (c .before .before .before .before .before .before .before .before .loop .inv) (c .before .before .before .before .before .before .before .if1 .left)
-    (rw (← c .before .before .before .before .before .before .read-page-info .ensures, ← c .before .before .free-order .ensures, ← c .before .is-upper-half .ensures, c .if3 .taken))
+    a-half _ _ _ (c .before .before .before .before .before .before .before .before .before .before .loop .inv) (c .before .before .before .before .before .before .before .before .before .if1 .left)
+    (rw (← c .before .before .before .before .before .before .before .before .read-page-info .ensures, ← c .before .before .before .before .free-order .ensures)
+    (not-false _ (failed (c .before .note-free .ensures .answer) (c .if3 .taken))))
 
 pub survey-spec : {M : Type 1} → statement M
 survey-spec =
@@ -123,10 +123,8 @@ survey-spec =
     head-order-requires
     block-at-requires
     free-order-requires
-    is-upper-half-requires
+    note-free-requires
     add-one-requires
-    add-one-requires-2
-    step-requires
     size-requires
     add-pfn
     loop-less
