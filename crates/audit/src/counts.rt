@@ -7,14 +7,12 @@ ghost use Rattle.audit.specs.Check.{counts};
 ghost use Rattle.audit.specs.Counts.{oneMore};
 use words::word::MAX_ORDER;
 
-// Adds one at `order`, if it is one.
+// Adds one at `order`.
 pub fn add_one(counts: &mut [usize; 6], order: usize)
-    requires { ⌜ (length (now counts) ≡ 6) × (getD (now counts) order 0 < room) ⌝ }
+    requires { ⌜ (order < 6) × (length (now counts) ≡ 6) × (getD (now counts) order 0 < room) ⌝ }
     ensures { λ _. ⌜ now (counts .exit) ≡ oneMore (now (counts .entry)) order ⌝ }
 {
-    if order < MAX_ORDER {
-        counts[order] += 1;
-    }
+    counts[order] += 1;
 }
 
 // Whether two counts are equal at every order.

@@ -1,13 +1,12 @@
 // The free lists, a page at a time.
 ghost use mathlib.Core.Path.{_≡_};
-ghost use Prim.Native.Nat.{_≤_};
+ghost use Prim.Native.Nat.{_<_, _≤_};
 ghost use lib.ListN.{length};
 ghost use Rattle.audit.specs.Check.{isFree};
 ghost use Rattle.audit.specs.Survey.{pageAfter, stepped};
 use crate::heads::free_order;
 use pages::next_free_pfn;
 use pages::read_page_info;
-use words::word::MAX_ORDER;
 
 // Whether `pfn` lies from `from` up to `end` and heads a free block of `order`.
 fn is_free(words: &[u64], from: usize, end: usize, order: usize, pfn: usize) -> bool
@@ -35,12 +34,10 @@ fn page_after(words: &[u64], from: usize, end: usize, order: usize, pfn: usize) 
     }
 }
 
-// Takes list `order`, if it is one, a page on.
+// Takes list `order` a page on.
 pub fn step(words: &[u64], from: usize, end: usize, order: usize, at: &mut [usize; 6])
-    requires { ⌜ (end ≤ length (now words)) × (length (now at) ≡ 6) ⌝ }
+    requires { ⌜ (order < 6) × (end ≤ length (now words)) × (length (now at) ≡ 6) ⌝ }
     ensures { λ _. ⌜ now (at .exit) ≡ stepped (now (words .entry)) from end order (now (at .entry)) ⌝ }
 {
-    if order < MAX_ORDER {
-        at[order] = page_after(words, from, end, order, at[order]);
-    }
+    at[order] = page_after(words, from, end, order, at[order]);
 }

@@ -34,7 +34,7 @@ fn is_upper_half(before: usize, order: usize, pfn: usize) -> bool
     pfn % size(before + 1) != 0
 }
 
-// Takes note of a block at `pfn`, free of `order`: counts it, takes its list a page on, and says whether it is no upper half.
+// Takes note of a block at `pfn`: one that is free of `order` is counted and its list goes a page on. Whether it is no upper half.
 fn note_free(
     words: &[u64],
     from: usize,

@@ -1,7 +1,4 @@
--- `audit::lists::step` meets its contract: a place that is no order changes nothing. Assumes nothing.
-use native.Mathlib.Omega.{arith}
-use mathlib.Core.Path.{sym}
-use lib.Seq.{set-out}
+-- `audit::lists::step` meets its contract: one place is written. Assumes nothing.
 use borrow.Author.Needs.{needs}
 use Rattle.audit.proofs.lists.step.Statement.{statement}
 use Rattle.audit.proofs.lists.step.Tie as tie
@@ -24,9 +21,6 @@ element-write-at c = search needs
 returns : tie.Need-returns
 returns c = rw (c .page-after .ensures)
 
-returns-2 : tie.Need-returns-2
-returns-2 c = sym (set-out _ _ _ (omega arith))
-
 pub step-spec : {M : Type 1} → statement M
 step-spec =
     tie.close
@@ -36,5 +30,4 @@ step-spec =
     page-after-requires
     mul-at
     element-write-at
-    returns
-    returns-2)
+    returns)

@@ -50,11 +50,6 @@ note-free-requires c κs =
       lists = i .lists .long;
     }
 
-add-one-requires : tie.Need-add-one-requires Inv-loop μ-loop
-add-one-requires c κs =
-    let i = c .before .before .before .before .before .before .before .before .before .before .before .loop .inv in
-    (i .blocks .long, omega (arith, tally-most _ _ (i .blocks) (c .before .before .before .before .before .before .before .before .head-order .result), c .before .before .before .before .before .before .before .before .before .before .before .before .before .pre .few, i .upto))
-
 -- the place after the test for a block, from where the block has been counted
 abbrev tested : tie.After-add-one Inv-loop μ-loop → tie.Else2 Inv-loop μ-loop
 tested c = c .before .before .before .before .before .before .before
@@ -75,6 +70,11 @@ fits c =
     let e = c .before .before .head-order .ensures ∙ ap headOrder (c .before .before .before .read-page-info .ensures) in
     let f = block _ _ _ (c .before .before .before .before .before .loop .inv) (stands c) in
     (rw e (f .small), rw e (f .ends))
+
+add-one-requires : tie.Need-add-one-requires Inv-loop μ-loop
+add-one-requires c κs =
+    let i = c .before .before .before .before .before .before .before .before .before .before .before .loop .inv in
+    (fits (c .before .before .before .before .before .before) .0, i .blocks .long, omega (arith, tally-most _ _ (i .blocks) (c .before .before .before .before .before .before .before .before .head-order .result), c .before .before .before .before .before .before .before .before .before .before .before .before .before .pre .few, i .upto))
 
 size-requires : tie.Need-size-requires Inv-loop μ-loop
 size-requires c κs = fits (tested c) .0
