@@ -96,19 +96,19 @@ loop-again c =
     let t = tested (c .before) in
     let read = t .before .before .before .read-page-info .ensures in
     rw (c .size .ensures, c .before .add-one .ensures, n .counted good, n .listed good, free, t .before .before .head-order .ensures, read)
-    (walk-more _ _ _ (t .before .before .before .before .before .loop .inv) (t .before .before .before .before .before .before .before .pre) (t .before .before .before .before .if1 .left) (stands t) (rw (← read, ← free) (not-true _ none)))
+    (walk-more _ _ _ (t .before .before .before .before .before .loop .inv) (t .before .before .before .before .before .before .before .pre) (omega (arith, t .before .before .before .before .if1 .left)) (stands t) (rw (← read, ← free) (not-true _ none)))
 
 returns : tie.Need-returns Inv-loop μ-loop
-returns c = walk-ends _ _ _ (c .before .loop .inv) (c .if1 .taken)
+returns c = walk-ends _ _ _ (c .before .loop .inv) (omega (arith, c .if1 .taken))
 
 returns-2 : tie.Need-returns-2 Inv-loop μ-loop
 returns-2 c =
-    no-block _ _ _ (c .before .before .before .before .before .loop .inv) (c .before .before .before .before .if1 .left)
+    no-block _ _ _ (c .before .before .before .before .before .loop .inv) (omega (arith, c .before .before .before .before .if1 .left))
     (rw (← c .before .before .before .read-page-info .ensures, ← c .before .before .head-order .ensures, failed (c .before .block-at .ensures) (c .if2 .taken)))
 
 returns-3 : tie.Need-returns-3 Inv-loop μ-loop
 returns-3 c =
-    a-half _ _ _ (c .before .before .before .before .before .before .before .before .before .before .loop .inv) (c .before .before .before .before .before .before .before .before .before .if1 .left)
+    a-half _ _ _ (c .before .before .before .before .before .before .before .before .before .before .loop .inv) (omega (arith, c .before .before .before .before .before .before .before .before .before .if1 .left))
     (rw (← c .before .before .before .before .before .before .before .before .read-page-info .ensures, ← c .before .before .before .before .free-order .ensures)
     (not-false _ (failed (c .before .note-free .ensures .answer) (c .if3 .taken))))
 
