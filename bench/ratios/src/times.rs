@@ -6,7 +6,7 @@ use crate::works::Stage;
 use std::time::{Duration, Instant};
 
 const ROUND: Duration = Duration::from_micros(300);
-const ROUNDS: usize = 300;
+const ROUNDS: usize = 1000;
 
 /// A work on one heap, and the nanoseconds that it took in each round so far.
 struct Timed<'a, H> {
