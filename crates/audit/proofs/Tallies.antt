@@ -1,4 +1,5 @@
--- A tally of pages by order: it starts at nothing, one page more is one more at its order, and no count passes the pages. Assumes nothing.
+-- A tally of pages by order: it starts at nothing, a page more, with pages after it that have none, is one more at its order, and no count
+-- passes the pages. Assumes nothing.
 use Prim.Native.Nat.{ℕ, _+_, _-_, _≤_, _<_}
 use native.Mathlib.Omega.{arith}
 use native.Mathlib.Decide.{ℕ-discrete, decLt}
