@@ -30,7 +30,8 @@ pub record NoteOk (ws : List ℕ) (e o : ℕ) (fs at : List ℕ) : Type 0 where
   pub few : getD fs o 0 < room
   pub lists : length at ≡ 6
 
--- a block at page p, free of order o: whether it is no upper half, and if so, one free block more and its list a page on
+-- a block at page p, free of order o: whether it is no upper half, and if so, one free block more and its list a page on. Of a block that is
+-- not free o is no order: it is no upper half, and both lists, which have no place o, stay as they are
 pub record Noted (ws : List ℕ) (a e b o p : ℕ) (fs at : List ℕ) (good : Bool) (fs′ at′ : List ℕ) : Type 0 where
   pub answer : good ≡ not (upperHalf b o p)
   pub counted : good ≡ true → fs′ ≡ oneMore fs o
