@@ -14,7 +14,7 @@ use Rattle.buddy.proofs.Tags.{kind-of, tag-path}
 use Rattle.buddy.proofs.Clear.{AllFree, Large, free-large, order-small, free-own}
 
 -- a run that is free all over lies in one block
-grows : (M : ℕ → Bool) (at : ℕ → Tag) → Tiled M at → NoBuddies M at → (o p : ℕ) → o ≤ 5 → AllFree M at o (cell o p) → o ≤ at p .order
+pub grows : (M : ℕ → Bool) (at : ℕ → Tag) → Tiled M at → NoBuddies M at → (o p : ℕ) → o ≤ 5 → AllFree M at o (cell o p) → o ≤ at p .order
 grows M at tiled apart o p valid f = rw (tiled (l .page) (f (l .page) (l .within) .0) .same p near) (l .large)
   where
     l : Large M at o (cell o p)

@@ -10,11 +10,13 @@ pub mod FreeLists
 pub mod Label
 pub mod Add
 pub mod Clean
-pub mod SetUp
 pub mod Clear
 pub mod Totals
 pub mod Canon
+pub mod Falls
+pub mod SetUp
 pub mod Refill
+pub mod SetUpOne
 pub mod GrantLists
 pub mod Grant
 pub mod Undo

@@ -65,6 +65,12 @@ cell-between o p q a b =
     let back : start o p + (q - start o p) ≡ q = omega arith in
     rw back at (cell-at o (cell o p) (q - start o p) (omega arith))
 
+-- a run whose pages all lie below n ends there
+pub run-ends : (o c n : ℕ) → ((q : ℕ) → cell o q ≡ c → q < n) → first o c + 2 ^ o ≤ n
+run-ends o c n below =
+    let size = pow-pos o in
+    omega (arith, below (first o c + (2 ^ o - 1)) (cell-at o c (2 ^ o - 1) (omega arith)))
+
 pub head-first : (o c : ℕ) → Head o (first o c)
 head-first o c = ap (first o) (cell-first o c)
 

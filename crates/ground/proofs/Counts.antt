@@ -1,8 +1,8 @@
--- Counts of the numbers that pass a test: equal tests, tests that differ at one number or at two, and a test that none passes.
--- Assumes nothing.
+-- Counts of the numbers that pass a test: equal tests, tests that differ at one number or at two, a test that none passes or one alone,
+-- and a test in two parts. Assumes nothing.
 use mathlib.Core.Path.{_≡_, refl, sym, _∙_}
 use mathlib.Core.Logic.{_≢_, by-cases}
-use mathlib.Core.Bool.{Bool, false}
+use mathlib.Core.Bool.{Bool, true, false}
 use Prim.Native.Nat.{ℕ, zero, suc, _+_, _<_}
 use native.Mathlib.Omega.{arith}
 use native.Mathlib.Decide.{ℕ-discrete}
@@ -27,6 +27,9 @@ count-at f g s (suc n) l e = by-cases (ℕ-discrete s n)
     (λ k. rw k (omega (arith, count-same f g n (λ p m. e p (omega arith)))))
     (λ k. rw (e n (omega arith)) (omega (arith, count-at f g s n (omega arith) e)))
 
+pub count-one : (f : ℕ → Bool) (s n : ℕ) → s < n → f s ≡ true → ((p : ℕ) → p ≢ s → f p ≡ false) → count f n ≡ 1
+count-one f s n l here e = omega (arith, no-count (λ _. false) n (λ _. refl), rw here at (count-at f (λ _. false) s n l e))
+
 -- two tests that agree but at s and t
 pub count-two : (f g : ℕ → Bool) (s t n : ℕ) → s < n → t < n → s ≢ t → ((p : ℕ) → p ≢ s → p ≢ t → f p ≡ g p)
     → count f n + one (g s) + one (g t) ≡ count g n + one (f s) + one (f t)
@@ -47,3 +50,9 @@ count-two f g s t n ls lt ne e = omega (
 
     to : (p : ℕ) → p ≢ s → mid p ≡ g p
     to p k = by-cases (ℕ-discrete p t) (λ h. rw h at-t) (λ h. update-other f t (g t) p h ∙ e p k h)
+
+-- a test that holds where one of two others does, and these never both
+pub count-parts : (f g h : ℕ → Bool) (n : ℕ) → ((p : ℕ) → one (f p) ≡ one (g p) + one (h p)) → count f n ≡ count g n + count h n
+unfolding count
+count-parts f g h zero e = refl
+count-parts f g h (suc n) e = omega (arith, e n, count-parts f g h n e)

@@ -1,11 +1,12 @@
--- A function changed at one number, and lists with one number taken out. Assumes nothing.
-use mathlib.Core.Path.{_≡_, sym, _∙_}
-use mathlib.Core.Logic.{_≢_, ⊎-elim, by-cases}
+-- A function changed at one number, lists with one number taken out, and lists that fall. Assumes nothing.
+use mathlib.Core.Path.{_≡_, refl, sym, ap, _∙_}
+use mathlib.Core.Logic.{_≢_, _↔_, ⊎-elim, by-cases}
 use mathlib.Core.List.{List, [], _∷_, List·Memᴰ, List·Memᴰ·head, List·Memᴰ·tail, List·Memᴰ·cases-cons, List·Memᴰ·not-nil}
-use Prim.Native.Nat.{ℕ}
+use Prim.Native.Nat.{ℕ, _≤_}
+use native.Mathlib.Omega.{arith}
 use native.Mathlib.Decide.{ℕ-discrete}
 use borrow.Author.Tests.{eq-eqb, ne-eqb}
-use Rattle.ground.specs.Numbers.{update, remove, Once}
+use Rattle.ground.specs.Numbers.{update, remove, Once, Falling}
 
 module _ {A : Type 0} (f : ℕ → A) (i : ℕ) (x : A) (j : ℕ) where
   pub update-same : j ≡ i → update f i x j ≡ x
@@ -54,3 +55,29 @@ module _ (p : ℕ) where
   once-remove (x ∷ xs) u = by-cases (ℕ-discrete x p)
       (λ e. rw (remove-same x xs e) (u .1))
       (λ e. rw (remove-other x xs e) (λ m. u .0 (mem-of-remove x xs m), once-remove xs (u .1)))
+
+  pub falling-remove : (l : List ℕ) → Falling l → Falling (remove p l)
+  unfolding remove
+  falling-remove [] f = tt
+  falling-remove (x ∷ xs) f = by-cases (ℕ-discrete x p)
+      (λ e. rw (remove-same x xs e) (f .1))
+      (λ e. rw (remove-other x xs e) (λ y m. f .0 y (mem-of-remove y xs m), falling-remove xs (f .1)))
+
+-- the head is the highest
+head-top : (x : ℕ) (xs : List ℕ) → Falling (x ∷ xs) → (q : ℕ) → List·Memᴰ q (x ∷ xs) → q ≤ x
+head-top x xs f q m = ⊎-elim (λ e. omega arith) (λ k. omega (arith, f .0 q k)) (List·Memᴰ·cases-cons m)
+
+-- behind one head, what is in both lists is in both rests
+tail-in : (x : ℕ) (xs ys : List ℕ) → Falling (x ∷ xs) → (q : ℕ) → (List·Memᴰ q (x ∷ xs) → List·Memᴰ q (x ∷ ys)) → List·Memᴰ q xs → List·Memᴰ q ys
+tail-in x xs ys f q to m = ⊎-elim (λ e. absurd (omega (arith, f .0 q m))) (λ k. k) (List·Memᴰ·cases-cons (to (List·Memᴰ·tail m)))
+
+-- two falling lists with the same numbers are one
+pub falling-one : (xs ys : List ℕ) → Falling xs → Falling ys → ((q : ℕ) → List·Memᴰ q xs ↔ List·Memᴰ q ys) → xs ≡ ys
+falling-one [] [] f g same = refl
+falling-one [] (y ∷ ys) f g same = absurd (List·Memᴰ·not-nil (same y .1 (List·Memᴰ·head refl)))
+falling-one (x ∷ xs) [] f g same = absurd (List·Memᴰ·not-nil (same x .0 (List·Memᴰ·head refl)))
+falling-one (x ∷ xs) (y ∷ ys) f g same = rw one (ap (λ l. y ∷ l) (falling-one xs ys (f .1) (g .1) (λ q.
+    (tail-in y xs ys (rw one at f) q (rw one at (same q .0)), tail-in y ys xs g q (rw one at (same q .1))))))
+  where
+    one : x ≡ y
+    one = omega (arith, head-top y ys g x (same x .0 (List·Memᴰ·head refl)), head-top x xs f y (same y .1 (List·Memᴰ·head refl)))

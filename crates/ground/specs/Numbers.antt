@@ -1,5 +1,5 @@
 -- Lists of numbers, functions on numbers and counts: general notions that the kit's library does not have.
-use Prim.Native.Nat.{ℕ, zero, suc, _+_}
+use Prim.Native.Nat.{ℕ, zero, suc, _+_, _<_}
 use mathlib.Core.Bool.{Bool, cond}
 use mathlib.Core.List.{List, [], _∷_, List·Memᴰ}
 use lib.Dec.{eqb}
@@ -17,6 +17,11 @@ remove p (x ∷ xs) = cond (eqb x p) xs (x ∷ remove p xs)
 abbrev pub Once : List ℕ → Type 0
 Once [] = Unit {0}
 Once (x ∷ xs) = (List·Memᴰ x xs → ⊥) × Once xs
+
+-- the numbers fall: each is above all that follow it
+abbrev pub Falling : List ℕ → Type 0
+Falling [] = Unit {0}
+Falling (x ∷ xs) = ((y : ℕ) → List·Memᴰ y xs → y < x) × Falling xs
 
 -- 1 where a test holds, else 0
 abbrev pub one : Bool → ℕ
