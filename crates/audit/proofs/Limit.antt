@@ -1,27 +1,27 @@
--- The limit on pages, as the code writes it: the one place that knows the number. With it the pages of a region in its limits are few.
--- Assumes nothing.
-use Prim.Native.Nat.{ℕ, _%_, _≤_}
+-- The pages of a region in its limits are few; and the six lines on its numbers, as the code asks them. Assumes nothing.
+use Prim.Native.Nat.{ℕ, _≤_}
 use native.Mathlib.Omega.{arith}
-use mathlib.Core.Path.{_≡_, refl}
-use mathlib.Core.Bool.{true, _&&_}
+use mathlib.Core.Path.{_≡_, sym}
+use mathlib.Core.Bool.{true, _&&_, and-assoc}
 use mathlib.Core.List.{List}
+use lib.Dec.{leb}
 use lib.ListN.{length}
-use borrow.Author.Tests.{le-leb, eq-eqb}
 use Rattle.region.specs.Layout.{maxPages, allocPages, Limits}
+use Rattle.region.specs.State.{room}
+use Rattle.region.proofs.Limits.{pages-small}
 use Rattle.region.specs.declared.HeapMemoryRegion.{HeapMemoryRegion}
-use Rattle.audit.specs.Check.{ends, fits, keeps, numbers, every}
+use Rattle.audit.specs.Check.{long, aligned, ends, fits, keeps, numbers, every}
 use Rattle.audit.specs.Counts.{Within}
 
-pub max-pages : maxPages ≡ 4096
-unfolding maxPages
-max-pages = refl
+pub limits-few : {start n a words : ℕ} → Limits start n a words → n ≤ room
+limits-few {n = n} l = omega (arith, pages-small n (l .most))
 
 pub limits-within : (ws : List ℕ) {start n a : ℕ} → Limits start n a (length ws) → Within ws a (allocPages n)
-limits-within ws l = record { from = l .boot; ends = omega (arith, l .long); few = omega (arith, l .most, max-pages) }
+limits-within ws l = record { from = l .boot; ends = omega (arith, l .long); few = omega (arith, limits-few l) }
 
--- two of the six lines are left after the first four
-pub first-four :
-    (r : HeapMemoryRegion) (ws : List ℕ) → 1 ≤ r .«page_count» → r .«page_count» ≤ maxPages → length ws ≡ r .«page_count» →
-    r .«start_virt» .0 % 4096 ≡ 0 → every (keeps r ws) numbers ≡ keeps r ws ends && (keeps r ws fits && true)
+-- the six lines, the first two of them as one test
+pub first-two : (r : HeapMemoryRegion) (ws : List ℕ) → every (keeps r ws) numbers ≡
+    (leb 1 (r .«page_count») && leb (r .«page_count») maxPages) &&
+    (keeps r ws long && (keeps r ws aligned && (keeps r ws ends && (keeps r ws fits && true))))
 unfolding keeps
-first-four r ws some most long aligned = simp (le-leb _ _ some, le-leb _ _ most, eq-eqb _ _ long, eq-eqb _ _ aligned)
+first-two r ws = sym (and-assoc (leb 1 (r .«page_count»)) _ _)

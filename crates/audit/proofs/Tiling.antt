@@ -31,8 +31,8 @@ free-head (Info (Reserved ri)) h = absurd (omega arith)
 free-head Decoded.No h = absurd (omega arith)
 
 module _ (ws : List ℕ) (a : ℕ) where
-  -- a page in a block that heads an order starts it
-  head-block : {e p : ℕ} → InBlock ws a e p → headOrder (said ws p) < 6 → Block ws a e p (headOrder (said ws p))
+  -- a page in a block that heads an order starts a block of that order, all of which stands there
+  pub head-block : {e p : ℕ} → InBlock ws a e p → headOrder (said ws p) < 6 → Block ws a e p (headOrder (said ws p))
   head-block {e} {p} i h =
       elim (ℕ-discrete (i .page) p) [
         | yes q ↦ subst (λ n. Block ws a e n (headOrder (said ws n))) q (subst (Block ws a e (i .page)) (sym (i .block .head)) (i .block))

@@ -1,15 +1,13 @@
 // The audit: whether a region's record and words are sound (document 01, rule 8), for any record and any words, in time that grows with
 // the pages. For the public calls, which audit first. Below it stand `region`, for the record, and `pages`, for the words.
 ghost use mathlib.Core.Path.{_≡_};
-ghost use Prim.Native.Nat.{_≤_};
-ghost use Rattle.region.specs.Layout.{allocPages};
-ghost use Rattle.region.specs.State.{room};
 ghost use Rattle.audit.specs.Check.{every, keeps, numbers, soundB};
 ghost use Rattle.audit.specs.Counts.{InLimits};
 ghost use Rattle.audit.specs.Survey.{edges, inner};
 use counts::same;
 use region::HeapMemoryRegion;
-use region::MAX_PAGES;
+use region::alloc_pages;
+use region::pages_good;
 use survey::survey;
 use tiles::all_say;
 use words::place::PAGE_SIZE;
@@ -24,24 +22,13 @@ pub mod lists;
 pub mod survey;
 pub mod tiles;
 
-// The pages of a region that are not metadata.
-pub fn alloc_pages(pages: usize) -> usize
-    requires { ⌜ pages ≤ room ⌝ }
-    ensures { λ r. ⌜ r ≡ allocPages pages ⌝ }
-{
-    pages - (pages * 8 + 4095) / 4096
-}
-
 // Whether the numbers of the record are those of a region with these words.
 fn numbers_good(region: HeapMemoryRegion, words: &[u64]) -> bool
     ensures { λ r. ⌜ r ≡ every (keeps region (now (words .entry))) numbers ⌝ }
 {
     let start = region.start_virt.0;
     let pages = region.page_count;
-    if pages < 1 {
-        return false;
-    }
-    if MAX_PAGES < pages {
+    if !pages_good(pages) {
         return false;
     }
     if words.len() != pages {

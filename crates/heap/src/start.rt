@@ -6,7 +6,8 @@ use calls::AllocError;
 use calls::Done;
 use calls::Finished;
 use region::HeapMemoryRegion;
-use region::MAX_PAGES;
+use region::alloc_pages;
+use region::pages_good;
 use setup::bare_region;
 use setup::init_memory;
 use words::place::PAGE_SIZE;
@@ -24,10 +25,7 @@ fn set_up_answer(start_virt: VirtAddr, page_count: usize, allocated: usize, word
     ensures { λ r. ⌜ done r ≡ setUpTold («start_virt» .0) «page_count» allocated words ⌝ }
 {
     let start = start_virt.0;
-    if page_count < 1 {
-        return Done::Refused(AllocError::BadCount);
-    }
-    if MAX_PAGES < page_count {
+    if !pages_good(page_count) {
         return Done::Refused(AllocError::BadCount);
     }
     if words != page_count {
@@ -39,7 +37,7 @@ fn set_up_answer(start_virt: VirtAddr, page_count: usize, allocated: usize, word
     if 0xffff_ffff_ffff_ffff - PAGE_SIZE * (page_count as u64) < start {
         return Done::Refused(AllocError::BadStart);
     }
-    if page_count - (page_count * 8 + 4095) / 4096 < allocated {
+    if alloc_pages(page_count) < allocated {
         return Done::Refused(AllocError::TooManyBoot);
     }
     Done::Ok

@@ -15,7 +15,7 @@ use Rattle.region.specs.Steps.{joins, join as joinState, TryOk, freeFrom, FreeO
 use Rattle.region.specs.Image.{regionOf, image}
 use Rattle.region.specs.declared.HeapMemoryRegion.{HeapMemoryRegion}
 use Rattle.image.specs.Fine.{Fine}
-use Rattle.image.proofs.Limits.{pages-small}
+use Rattle.region.proofs.Limits.{pages-small}
 use Rattle.image.proofs.Shown.{words-long}
 use Rattle.image.proofs.Halves.{first-above, lower-page}
 use Rattle.image.proofs.Step.{Lent, Step, Rule, bound, cut-small, run-below}

@@ -1,5 +1,4 @@
 pub mod Tables
-pub mod Limits
 pub mod Links
 pub mod Shown
 pub mod Meanings

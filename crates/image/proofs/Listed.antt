@@ -25,7 +25,7 @@ use Rattle.region.specs.State.{freesIn, withList}
 use Rattle.region.specs.Image.{headOr, regionOf, wordsOf, image}
 use Rattle.region.specs.declared.HeapMemoryRegion.{HeapMemoryRegion}
 use Rattle.image.specs.Fine.{Fits}
-use Rattle.image.proofs.Limits.{pages-small}
+use Rattle.region.proofs.Limits.{pages-small}
 use Rattle.image.proofs.Links.{Links}
 use Rattle.image.proofs.Shown.{shown-in, words-say}
 use Rattle.image.proofs.Told.{Says, links-list}

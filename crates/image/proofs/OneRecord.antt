@@ -15,7 +15,7 @@ use Rattle.region.specs.Pages.{FreeList}
 use Rattle.region.specs.Sound.{Sound}
 use Rattle.region.specs.Image.{headOr, nextAfter, Typed}
 use Rattle.region.specs.declared.HeapMemoryRegion.{HeapMemoryRegion}
-use Rattle.image.proofs.Limits.{pages-small}
+use Rattle.region.proofs.Limits.{pages-small}
 use Rattle.image.proofs.Links.{after-tail, Links, links-after}
 use Rattle.image.proofs.Sums.{occurs-once}
 use Rattle.image.proofs.FreeLists.{linked-head, linked-links, linked-free, linked-full}

@@ -25,7 +25,7 @@ use Rattle.region.specs.Layout.{endOf, Limits}
 use Rattle.region.specs.Image.{nextAfter, headInfo, entry, shown, wordsOf}
 use Rattle.region.specs.declared.HeapMemoryRegion.{HeapMemoryRegion}
 use Rattle.image.specs.Fine.{managed, Holds, Fits}
-use Rattle.image.proofs.Limits.{pages-small}
+use Rattle.region.proofs.Limits.{pages-small}
 use Rattle.image.proofs.Tables.{length-table, getD-table}
 use Rattle.image.proofs.Links.{after-in}
 

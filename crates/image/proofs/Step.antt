@@ -2,17 +2,16 @@
 use mathlib.Core.Path.{_≡_, _∙_}
 use mathlib.Core.Logic.{by-cases}
 use mathlib.Core.Bool.{Bool}
-use Prim.Native.Nat.{ℕ, _+_, _-_, _^_, _≤_, _<_}
+use Prim.Native.Nat.{ℕ, _+_, _^_, _≤_, _<_}
 use native.Mathlib.Omega.{arith}
 use native.Mathlib.Decide.{ℕ-discrete}
 use lib.Dec.{T}
-use lib.Pow.{pow-pos}
 use lib.ListN.{length}
 use Rattle.ground.proofs.Bounds.{once-length, count-le}
 use Rattle.buddy.specs.Runs.{cell, first}
 use Rattle.buddy.specs.Heap.{Kind, Tag, tag, Heap, Core, heads}
 use Rattle.buddy.specs.Steps.{paint}
-use Rattle.buddy.proofs.RunLaws.{cell-first, cell-at}
+use Rattle.buddy.proofs.RunLaws.{cell-first, run-ends}
 use Rattle.buddy.proofs.Spans.{T-span}
 use Rattle.buddy.proofs.Paint.{Cut, paint-in, paint-out}
 use Rattle.buddy.proofs.Clear.{order-small}
@@ -22,7 +21,7 @@ use Rattle.region.specs.State.{State}
 use Rattle.region.specs.Image.{image}
 use Rattle.region.specs.declared.HeapMemoryRegion.{HeapMemoryRegion}
 use Rattle.image.specs.Fine.{managed, Holds, Fits, Fine}
-use Rattle.image.proofs.Limits.{pages-small}
+use Rattle.region.proofs.Limits.{pages-small}
 
 -- a region that is lent as many words as it has pages
 abbrev pub Lent : HeapMemoryRegion → Type 0
@@ -56,9 +55,7 @@ module _ {M : ℕ → Bool} {r : HeapMemoryRegion} {h : Heap} (f : Fits M r h) w
     cut-within = record { managed = λ q e. f .within q (cut .managed q e); order = cut .order }
 
     pub run-below : first o c + 2 ^ o ≤ endOf r
-    run-below =
-        let size = pow-pos o in
-        omega (arith, bound (first o c + (2 ^ o - 1)) (cut .managed _ (cell-at o c (2 ^ o - 1) (omega arith))))
+    run-below = run-ends o c (endOf r) (λ q e. bound q (cut .managed q e))
 
   pub cut-small : {i o c : ℕ} → Cut M (h .at) i o c → i ≤ 5
   cut-small {i} {o} {c} cut = rw (cut .order (first o c) (cell-first o c)) at

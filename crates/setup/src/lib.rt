@@ -103,7 +103,7 @@ pub fn init_memory(
     requires { ⌜ Limits («start_virt» .0) «page_count» allocated (length (now words)) ⌝ }
     ensures { λ r. ⌜ st r (now (words .exit)) ≡ initMemory «start_virt» «page_count» allocated (now (words .entry)) ⌝ }
 {
-    let alloc_pages = page_count - (page_count * 8 + 4095) / 4096;
+    let alloc_pages = region::alloc_pages(page_count);
     fill_words(
         words,
         0,

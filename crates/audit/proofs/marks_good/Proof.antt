@@ -3,13 +3,13 @@ use native.Mathlib.Omega.{arith}
 use mathlib.Core.Bool.{and-true}
 use borrow.Author.Needs.{needs}
 use Rattle.audit.specs.Check.{keeps}
-use Rattle.audit.proofs.Limit.{max-pages}
+use Rattle.audit.proofs.Limit.{limits-few}
 use Rattle.audit.proofs.Loops.{failed, passed}
 use Rattle.audit.proofs.marks_good.Statement.{statement}
 use Rattle.audit.proofs.marks_good.Tie as tie
 
 alloc-pages-requires : tie.Need-alloc-pages-requires
-alloc-pages-requires c κs = omega (arith, max-pages)
+alloc-pages-requires c κs = limits-few (c .before .pre)
 
 all-say-requires : tie.Need-all-say-requires
 all-say-requires c κs = search needs

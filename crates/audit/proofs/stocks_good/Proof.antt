@@ -3,14 +3,14 @@ use native.Mathlib.Omega.{arith}
 use mathlib.Core.Path.{sym, _∙_}
 use borrow.Author.Needs.{needs}
 use borrow.Author.Tests.{not-true, not-false}
-use Rattle.audit.proofs.Limit.{max-pages, limits-within}
+use Rattle.audit.proofs.Limit.{limits-few, limits-within}
 use Rattle.audit.proofs.Loops.{failed, passed}
 use Rattle.audit.proofs.Found.{found-bad, found-good}
 use Rattle.audit.proofs.stocks_good.Statement.{statement}
 use Rattle.audit.proofs.stocks_good.Tie as tie
 
 alloc-pages-requires : tie.Need-alloc-pages-requires
-alloc-pages-requires c κs = omega (arith, max-pages, c .before .before .pre .most)
+alloc-pages-requires c κs = limits-few (c .before .before .pre)
 
 survey-requires : tie.Need-survey-requires
 survey-requires c κs = rw (c .alloc-pages .ensures) (limits-within _ (c .before .before .before .pre))

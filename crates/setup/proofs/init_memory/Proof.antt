@@ -1,18 +1,14 @@
 -- `setup::init_memory` meets its contract: its calls one after the other, each safe by the law of set-up. Assumes nothing.
+use native.Mathlib.Omega.{arith}
 use borrow.Author.Needs.{needs}
+use Rattle.region.proofs.Limits.{pages-small}
 use Rattle.setup.specs.Steps.{blank, initMemory}
 use Rattle.setup.proofs.Init.{init-image}
 use Rattle.setup.proofs.init_memory.Statement.{statement}
 use Rattle.setup.proofs.init_memory.Tie as tie
 
-mul-alloc-pages : tie.Need-mul-alloc-pages
-mul-alloc-pages c = search needs
-
-add-alloc-pages : tie.Need-add-alloc-pages
-add-alloc-pages c = search needs
-
-sub-alloc-pages : tie.Need-sub-alloc-pages
-sub-alloc-pages c = search needs
+alloc-pages-requires : tie.Need-alloc-pages-requires
+alloc-pages-requires c κs = omega (arith, pages-small _ (c .before .pre .most))
 
 fill-words-requires : tie.Need-fill-words-requires
 fill-words-requires c κs = search needs
@@ -31,8 +27,8 @@ unfolding blank
 grow-span-requires c κs =
     let reserved = c .before .before .before .before in
     let allocated = reserved .before .before .before .before in
-    rw (c .before .bare-region .ensures, reserved .fill-words2 .ensures, allocated .fill-words .ensures)
-    (init-image _ _ _ _ (allocated .before .before .before .pre) .ok)
+    rw (c .before .bare-region .ensures, reserved .fill-words2 .ensures, allocated .fill-words .ensures, allocated .before .before .alloc-pages .ensures)
+    (init-image _ _ _ _ (allocated .before .before .before .before .pre) .ok)
 
 same-length : tie.Need-same-length
 same-length c = search needs
@@ -47,15 +43,14 @@ returns c =
       grown .before .before .bare-region .ensures,
       reserved .fill-words2 .ensures,
       reserved .before .before .before .before .fill-words .ensures,
+      reserved .before .before .before .before .before .before .alloc-pages .ensures,
     )
 
 pub init-memory-spec : {M : Type 1} → statement M
 init-memory-spec =
     tie.close
     (tie.spec
-    mul-alloc-pages
-    add-alloc-pages
-    sub-alloc-pages
+    alloc-pages-requires
     fill-words-requires
     sub-fill-words
     fill-words-requires-2
