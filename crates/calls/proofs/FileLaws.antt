@@ -28,10 +28,10 @@ use Rattle.image.specs.Fine.{managed}
 use Rattle.image.proofs.Shown.{head-zero}
 use Rattle.image.proofs.Step.{Rule, bound}
 use Rattle.image.proofs.Label.{label-image, label-fine}
-use Rattle.release.specs.Files.{maxCount, gotCount, gotWords, putCount, putState, PutFileOk}
+use Rattle.calls.specs.Files.{maxCount, gotCount, gotWords, putCount, putState, PutFileOk}
 use Rattle.calls.specs.Told.{ok, count, result}
 use Rattle.calls.specs.Promise.{onPage, soundGet, soundPut}
-use Rattle.calls.specs.Code.{countedAt, leaves}
+use Rattle.calls.specs.Code.{leaves}
 use Rattle.calls.proofs.Good.{Good, fine, is-image}
 use Rattle.calls.proofs.Places.{on-same}
 use Rattle.calls.proofs.Heads.{said-file, file-said}
@@ -93,7 +93,7 @@ module _ {r : HeapMemoryRegion} {ws : List ℕ} (good : Good r ws) where
     last = λ n e _. out-frees good (file-out (said-file (good .sound) p n l e)) .ok;
   }
 
-  pub get-code : (a : VirtAddr) → onPage r ws (a .0) (λ p. result (count (countedAt (gotCount p ws) a)) r (gotWords p ws)) ≡ soundGet r ws (a .0)
+  pub get-code : (a : VirtAddr) → onPage r ws (a .0) (λ p. result (count (gotCount a p ws)) r (gotWords p ws)) ≡ soundGet r ws (a .0)
   unfolding soundGet gotCount gotWords
   get-code a = on-same r ws (a .0) _ _ (λ p l. by-file (said ws p)
       (λ n e. rw e (by-test (leb maxCount n)
@@ -105,7 +105,7 @@ module _ {r : HeapMemoryRegion} {ws : List ℕ} (good : Good r ws) where
       (λ other. simp other))
 
   pub put-code : (a : VirtAddr)
-      → onPage r ws (a .0) (λ p. leaves (count (countedAt (putCount p (st r ws)) a)) (putState p (st r ws))) ≡ soundPut r ws (a .0)
+      → onPage r ws (a .0) (λ p. leaves (count (putCount a p (st r ws))) (putState p (st r ws))) ≡ soundPut r ws (a .0)
   unfolding soundPut putCount putState
   put-code a = on-same r ws (a .0) _ _ (λ p l. by-file (said ws p)
       (λ n e. rw e (ap (leaves (ok ((n - 1) ∷ []))) (rw e at (file-puts (said-file (good .sound) p n l e) .leaves))))

@@ -16,7 +16,7 @@ use Rattle.region.specs.Pages.{goodItem}
 use Rattle.region.specs.Image.{heapOf}
 use Rattle.region.specs.declared.HeapMemoryRegion.{HeapMemoryRegion}
 use Rattle.image.specs.Fine.{managed, Fine}
-use Rattle.release.specs.Files.{maxCount}
+use Rattle.calls.specs.Files.{maxCount}
 use Rattle.calls.specs.Told.{Told, ok, no, Result}
 use Rattle.calls.specs.Promise.{kept, became, soundAllocate, soundFile, soundSlab, soundFree, soundGet, soundPut}
 use Rattle.calls.proofs.Places.{place}

@@ -33,7 +33,7 @@ use Rattle.region.specs.declared.lists.Found.the-variants.{At, Nothing}
 use Rattle.image.specs.Fine.{managed, Holds, Fine}
 use Rattle.image.proofs.Label.{label-fine}
 use Rattle.image.proofs.Grant.{Granted, Grants}
-use Rattle.release.specs.Files.{maxCount}
+use Rattle.calls.specs.Files.{maxCount}
 use Rattle.calls.specs.Told.{ok, no}
 use Rattle.calls.specs.Promise.{kept, became, grants, soundAllocate, soundFile, slabGrants, soundSlab, soundFree, soundGet, soundPut}
 use Rattle.calls.specs.Code.{freeable}

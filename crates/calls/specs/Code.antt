@@ -4,7 +4,6 @@ use mathlib.Core.Path.{_≡_}
 use mathlib.Core.List.{[]}
 use Rattle.words.specs.Place.{addressAt}
 use Rattle.words.specs.declared.place.AddressAt.{AddressAt}
-use Rattle.words.specs.declared.place.VirtAddr.{VirtAddr}
 use Rattle.words.specs.declared.word.PageInfo.{PageInfo}
 use Rattle.words.specs.declared.word.PageInfo.the-variants.{Free, Allocated, Slab, Compound, File, Reserved}
 use Rattle.words.specs.declared.word.Decoded.{Decoded}
@@ -12,13 +11,11 @@ use Rattle.words.specs.declared.word.Decoded.the-variants.{Info}
 use Rattle.pages.specs.Info.{allocatedInfo}
 use Rattle.region.specs.declared.lists.Found.{Found}
 use Rattle.region.specs.declared.lists.Found.the-variants.{Nothing}
-use Rattle.release.specs.declared.Counted.{Counted}
 use Rattle.region.specs.State.{State, ifAt}
 use Rattle.region.specs.Steps.{grantPage}
 use Rattle.region.specs.Steps as Steps
 use Rattle.calls.specs.Told.{Told, no, grant, Result, result}
-use Rattle.calls.specs.declared.AllocError.the-variants.{OutOfMemory, InvalidFilePage, RefFull}
-use Rattle.calls.specs.declared.Count.{Count}
+use Rattle.calls.specs.declared.AllocError.the-variants.{OutOfMemory}
 use Rattle.calls.specs.declared.Grant.{Grant}
 use Rattle.calls.specs.declared.Grant.the-variants as Grant
 
@@ -36,12 +33,6 @@ freeable (Info (Compound ci)) = Nothing
 freeable (Info (File fi)) = Found.At 0
 freeable (Info (Reserved ri)) = Nothing
 freeable Decoded.No = Nothing
-
--- the answer for what a get or a put found
-abbrev pub countedAt : Counted → VirtAddr → Count
-countedAt (Counted.Count n) a = Count.Is n
-countedAt Counted.NotFile a = Count.Refused (InvalidFilePage a)
-countedAt Counted.Full a = Count.Refused (RefFull a)
 
 -- a word that decodes has an order
 pub record SaidOk (d : Decoded) : Type 0 where

@@ -1,7 +1,7 @@
 // Granting a block: the search for a list, the split down to the order asked for, the grant (document 01, rule 4).
 // For the public calls that grant. Below it stand the steps of `region`.
 ghost use mathlib.Core.Path.{_≡_};
-ghost use Prim.Native.Nat.{_-_, _<_};
+ghost use Prim.Native.Nat.{_-_, _≤_};
 ghost use Rattle.region.specs.State.{st, Gives};
 ghost use Rattle.region.specs.Steps.{lowestFrom, SplitDownOk, splitDown, RefillOk, refill, GrantOk, grantPage, grant};
 use pages::write_page_info;
@@ -19,7 +19,7 @@ pub struct Granted {
 
 // The lowest order from `order` on whose list is not empty.
 pub fn find_order(heads: [usize; 6], order: usize) -> Found
-    requires { ⌜ order < 6 ⌝ }
+    requires { ⌜ order ≤ 6 ⌝ }
     ensures { λ r. ⌜ r ≡ lowestFrom (6 - order) order heads ⌝ }
 {
     let mut ord = order;
@@ -60,7 +60,7 @@ pub fn split_down(
     rest
 }
 
-// Fills list `order` from the lowest higher list that is not empty, if there is one.
+// Fills list `order`, if it is empty, from the lowest higher list that is not, if there is one.
 pub fn refill_page_list(
     region: HeapMemoryRegion,
     words: &mut [u64],
@@ -70,7 +70,10 @@ pub fn refill_page_list(
     ensures { λ r. ⌜ st r (now (words .exit)) ≡ refill order (st region (now (words .entry))) ⌝ }
 {
     let heads = region.next_page;
-    let found = find_order(heads, order);
+    if heads[order] != NO_PAGE {
+        return region;
+    }
+    let found = find_order(heads, order + 1);
     let Found::At(from) = found else {
         return region;
     };

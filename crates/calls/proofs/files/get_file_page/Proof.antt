@@ -1,11 +1,10 @@
 -- `calls::files::get_file_page` meets its contract, by the law `get-code`. Assumes nothing.
-use mathlib.Core.Path.{_≡_, sym, ap, _∙_}
+use mathlib.Core.Path.{_≡_, sym, _∙_}
 use native.Mathlib.Omega.{arith}
 use denote.Ref.{now}
 use Rattle.words.specs.declared.place.PageAt.the-variants.{Start}
 use Rattle.calls.specs.Told.{result, count}
 use Rattle.calls.specs.Promise.{atPage, soundGet}
-use Rattle.calls.specs.Code.{countedAt}
 use Rattle.calls.proofs.Good.{Good}
 use Rattle.calls.proofs.Typing.{good}
 use Rattle.calls.proofs.Patterns.{no-start}
@@ -34,13 +33,10 @@ returns : tie.Need-returns
 unfolding soundGet
 returns c = rw (← c .before .get-pfn .ensures) (sym (no-start _ _ _ _ _ (c .match .keys2)))
 
-get-file-page-requires : tie.Need-get-file-page-requires
-get-file-page-requires c κs =
+get-at-requires : tie.Need-get-at-requires
+get-at-requires c κs =
     let start = c .before .before .before .before .before .before .before in
     omega (arith, start .pre .limits .long, start-in (start .args .region) _ _ (found (c .before)))
-
-counted-at-requires : tie.Need-counted-at-requires
-counted-at-requires c κs = search needs
 
 same-length : tie.Need-same-length
 same-length c = search needs
@@ -48,10 +44,11 @@ same-length c = search needs
 returns-2 : tie.Need-returns-2
 unfolding atPage
 returns-2 c =
-    let start = c .before .before .before .before .before .before .before .before .before .before .before in
-    let got = c .before .before .before .get-file-page .ensures in
-    (λ i. result (count ((c .counted-at .ensures ∙ ap (λ n. countedAt n (start .args .vaddr)) (got .0)) i)) (start .args .region) (got .1 i))
-    ∙ (rw (found (c .before .before .before .before .before)) at (get-code (state (c .before .before .before .before .before .before .before .before .before .before)) (start .args .vaddr)))
+    let seen = c .before .before .before .before in
+    let start = seen .before .before .before .before .before .before in
+    let got = c .before .before .get-at .ensures in
+    (λ i. result (count (got .0 i)) (start .args .region) (got .1 i))
+    ∙ (rw (found seen) at (get-code (state (seen .before .before .before .before .before)) (start .args .vaddr)))
 
 pub get-file-page-spec : {M : Type 1} → statement M
 get-file-page-spec =
@@ -60,7 +57,6 @@ get-file-page-spec =
     get-pfn-requires
     enum-known-place
     returns
-    get-file-page-requires
-    counted-at-requires
+    get-at-requires
     same-length
     returns-2)

@@ -1,10 +1,10 @@
 -- `calls::files::put_file_page` meets its contract, by the law `put-code`. Assumes nothing.
-use mathlib.Core.Path.{_≡_, sym, ap, _∙_}
+use mathlib.Core.Path.{_≡_, sym, _∙_}
 use denote.Ref.{now}
 use Rattle.words.specs.declared.place.PageAt.the-variants.{Start}
 use Rattle.calls.specs.Told.{count}
 use Rattle.calls.specs.Promise.{atPage, soundPut}
-use Rattle.calls.specs.Code.{countedAt, leaves}
+use Rattle.calls.specs.Code.{leaves}
 use Rattle.calls.proofs.Good.{Good}
 use Rattle.calls.proofs.Typing.{good}
 use Rattle.calls.proofs.Patterns.{no-start}
@@ -33,11 +33,10 @@ returns : tie.Need-returns
 unfolding soundPut
 returns c = rw (← c .before .get-pfn .ensures) (sym (no-start _ _ _ _ _ (c .match .keys2)))
 
-put-file-page-requires : tie.Need-put-file-page-requires
-put-file-page-requires c κs = put-ok (state (c .before .before .before .before .before .before)) _ (start-in (c .before .before .before .before .before .before .before .args .region) _ _ (found (c .before)))
-
-counted-at-requires : tie.Need-counted-at-requires
-counted-at-requires c κs = search needs
+put-at-requires : tie.Need-put-at-requires
+put-at-requires c κs =
+    let start = c .before .before .before .before .before .before in
+    put-ok (state start) _ (start-in (start .before .args .region) _ _ (found (c .before)))
 
 same-length : tie.Need-same-length
 same-length c = search needs
@@ -45,10 +44,10 @@ same-length c = search needs
 returns-2 : tie.Need-returns-2
 unfolding atPage
 returns-2 c =
-    let a = c .before .before .before .before .before .before .before .before .before .before .before .before .args .vaddr in
-    let got = c .before .before .before .before .put-file-page .ensures in
-    (λ i. leaves (count ((c .counted-at .ensures ∙ ap (λ n. countedAt n a) (got .answers)) i)) (got .leaves i))
-    ∙ (rw (found (c .before .before .before .before .before .before)) at (put-code (state (c .before .before .before .before .before .before .before .before .before .before .before)) a))
+    let seen = c .before .before .before .before in
+    let start = seen .before .before .before .before .before in
+    let got = c .before .before .put-at .ensures in
+    (λ i. leaves (count (got .answers i)) (got .leaves i)) ∙ (rw (found seen) at (put-code (state start) (start .before .args .vaddr)))
 
 pub put-file-page-spec : {M : Type 1} → statement M
 put-file-page-spec =
@@ -57,7 +56,6 @@ put-file-page-spec =
     get-pfn-requires
     enum-known-place
     returns
-    put-file-page-requires
-    counted-at-requires
+    put-at-requires
     same-length
     returns-2)

@@ -1,12 +1,11 @@
--- `release::get_file_page` meets its contract: what the word says and its count pick the case. Assumes nothing.
+-- `calls::files::get_at` meets its contract: what the word says and its count pick the case. Assumes nothing.
 use mathlib.Core.Path.{refl, sym, _∙_}
 use borrow.Author.Tests.{le-leb, lt-leb}
 use borrow.Author.Needs.{needs}
 use Rattle.pages.proofs.Patterns.{through, other}
-use Rattle.release.specs.Files.{gotCount, gotWords}
-use Rattle.release.specs.declared.Counted.the-variants.{NotFile}
-use Rattle.release.proofs.get_file_page.Statement.{statement}
-use Rattle.release.proofs.get_file_page.Tie as tie
+use Rattle.calls.specs.Files.{gotCount, gotWords}
+use Rattle.calls.proofs.files.get_at.Statement.{statement}
+use Rattle.calls.proofs.files.get_at.Tie as tie
 
 read-page-info-requires : tie.Need-read-page-info-requires
 read-page-info-requires c κs = search needs
@@ -35,7 +34,7 @@ unfolding gotCount gotWords
 returns-2 c =
     let i = c .before .before .info .given in
     simp (sym (c .before .before .before .before .read-page-info .ensures) ∙ i .1)
-    (sym (other (i .0 .0) NotFile .file _ (c .match2 .keys2)), sym (other (i .0 .0) _ .file _ (c .match2 .keys2)))
+    (sym (other (i .0 .0) _ .file _ (c .match2 .keys2)), sym (other (i .0 .0) _ .file _ (c .match2 .keys2)))
 
 same-length-3 : tie.Need-same-length-3
 same-length-3 c = search needs
@@ -47,14 +46,14 @@ returns-3 c =
     let file = through (first .before .before .read-page-info .ensures) (first .info .given .1) (c .before .before .info2 .given .1) in
     simp (file, le-leb _ _ (c .if1 .taken)) (refl, refl)
 
-add-t13 : tie.Need-add-t13
-add-t13 c = search needs
+add-t17 : tie.Need-add-t17
+add-t17 c = search needs
 
 write-page-info-requires : tie.Need-write-page-info-requires
 write-page-info-requires c κs = search needs
 
-add-t13-2 : tie.Need-add-t13-2
-add-t13-2 c = search needs
+add-t17-2 : tie.Need-add-t17-2
+add-t17-2 c = search needs
 
 same-length-4 : tie.Need-same-length-4
 same-length-4 c = search needs
@@ -67,8 +66,8 @@ returns-4 c =
     let file = through (first .before .before .read-page-info .ensures) (first .info .given .1) (room .before .before .info2 .given .1) in
     simp (file, lt-leb _ _ (room .if1 .left)) (refl, c .before .before .write-page-info .ensures)
 
-pub get-file-page-spec : {M : Type 1} → statement M
-get-file-page-spec =
+pub get-at-spec : {M : Type 1} → statement M
+get-at-spec =
     tie.close
     (tie.spec
     read-page-info-requires
@@ -81,8 +80,8 @@ get-file-page-spec =
     returns-2
     same-length-3
     returns-3
-    add-t13
+    add-t17
     write-page-info-requires
-    add-t13-2
+    add-t17-2
     same-length-4
     returns-4)

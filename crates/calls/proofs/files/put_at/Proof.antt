@@ -1,4 +1,4 @@
--- `release::put_file_page` meets its contract: what the word says and its count pick the case. Assumes nothing.
+-- `calls::files::put_at` meets its contract: what the word says and its count pick the case. Assumes nothing.
 use Prim.Native.Nat.{_-_}
 use mathlib.Core.Path.{_≡_, refl, sym, _∙_, ap}
 use native.Mathlib.Omega.{arith}
@@ -9,10 +9,10 @@ use Rattle.words.specs.declared.word.PageInfo.the-variants.{File}
 use Rattle.words.specs.declared.word.Decoded.the-variants.{Info}
 use Rattle.pages.specs.Said.{said}
 use Rattle.pages.proofs.Patterns.{through, other}
-use Rattle.release.specs.Files.{putCount, putState}
-use Rattle.release.specs.declared.Counted.the-variants.{Count, NotFile}
-use Rattle.release.proofs.put_file_page.Statement.{statement}
-use Rattle.release.proofs.put_file_page.Tie as tie
+use Rattle.calls.specs.Files.{putCount, putState}
+use Rattle.calls.specs.declared.Count.the-variants.{Is}
+use Rattle.calls.proofs.files.put_at.Statement.{statement}
+use Rattle.calls.proofs.files.put_at.Tie as tie
 
 -- past the second pattern the word is a File's
 file :
@@ -50,7 +50,7 @@ unfolding putCount putState
 returns-2 c =
     let i = c .before .before .info .given in
     simp (sym (c .before .before .before .before .read-page-info .ensures) ∙ i .1)
-    (record { answers = sym (other (i .0 .0) NotFile .file _ (c .match2 .keys2)); leaves = sym (other (i .0 .0) _ .file _ (c .match2 .keys2)) })
+    (record { answers = sym (other (i .0 .0) _ .file _ (c .match2 .keys2)); leaves = sym (other (i .0 .0) _ .file _ (c .match2 .keys2)) })
 
 free-page-order-requires : tie.Need-free-page-order-requires
 free-page-order-requires c κs =
@@ -66,16 +66,16 @@ returns-3 c =
     let last = c .before .before .before .before in
     let none : 0 ≡ last .before .before .info2 .given .0 .0 .«ref_count» - 1 = omega (arith, last .if1 .taken) in
     simp (file (last .before), le-leb _ _ (last .if1 .taken))
-    (record { answers = ap Count none; leaves = c .before .before .free-page-order .ensures })
+    (record { answers = ap Is none; leaves = c .before .before .free-page-order .ensures })
 
-sub-t20 : tie.Need-sub-t20
-sub-t20 c = search needs
+sub-t23 : tie.Need-sub-t23
+sub-t23 c = search needs
 
 write-page-info-requires : tie.Need-write-page-info-requires
 write-page-info-requires c κs = search needs
 
-sub-t20-2 : tie.Need-sub-t20-2
-sub-t20-2 c = search needs
+sub-t23-2 : tie.Need-sub-t23-2
+sub-t23-2 c = search needs
 
 same-length-4 : tie.Need-same-length-4
 same-length-4 c = search needs
@@ -87,8 +87,8 @@ returns-4 c =
     simp (file (more .before), lt-leb _ _ (more .if1 .left))
     (record { answers = refl; leaves = rw (c .before .before .write-page-info .ensures) })
 
-pub put-file-page-spec : {M : Type 1} → statement M
-put-file-page-spec =
+pub put-at-spec : {M : Type 1} → statement M
+put-at-spec =
     tie.close
     (tie.spec
     read-page-info-requires
@@ -102,8 +102,8 @@ put-file-page-spec =
     free-page-order-requires
     same-length-3
     returns-3
-    sub-t20
+    sub-t23
     write-page-info-requires
-    sub-t20-2
+    sub-t23-2
     same-length-4
     returns-4)
