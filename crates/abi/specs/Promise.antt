@@ -6,7 +6,7 @@ use mathlib.Core.List.{List, [], _++_}
 use lib.Dec.{eqb}
 use lib.ListN.{length}
 use Rattle.region.specs.declared.HeapMemoryRegion.{HeapMemoryRegion}
-use Rattle.calls.specs.Told.{Told, ok, no, done, result, Result}
+use Rattle.calls.specs.Told.{Told, ok, no, result, Result}
 use Rattle.heap.specs.Promise.{emptyRegion, setUpPromise, allocatePromise, filePromise, slabPromise, freePromise, getPromise, putPromise, lookupPromise, auditPromise, reportPromise}
 use Rattle.abi.specs.Answer.{answerOf}
 use Rattle.abi.specs.Record.{packed, unpacked}
@@ -75,7 +75,7 @@ reported a ns = record { answer = a; report = ns }
 unfoldable pub reportLeft : List ℕ → List ℕ → List ℕ → Reported
 reportLeft xs ws ns = cond (eqb (length xs) 21)
     (cond (eqb (length ns) 12)
-    (let p = reportPromise (unpacked xs) ws in let t = done (p .answer) in
-    reported (answerOf t) (cond (eqb (t .number) 0) (p .«total_pages» ++ p .«free_pages») ns))
+    (let p = reportPromise (unpacked xs) ws in
+    reported (answerOf (p .told)) (cond (eqb (p .told .number) 0) (p .total ++ p .free) ns))
     (reported badBuffer ns))
     (reported badBuffer ns)

@@ -7,10 +7,10 @@ use region::HeapMemoryRegion;
 use words::place::VirtAddr;
 
 // The length of a record.
-pub const RECORD: usize = 21;
+pub(crate) const RECORD: usize = 21;
 
 // The record that the numbers say.
-pub fn load(numbers: &[u64]) -> HeapMemoryRegion
+pub(crate) fn load(numbers: &[u64]) -> HeapMemoryRegion
     requires { ⌜ length (now numbers) ≡ 21 ⌝ }
     ensures { λ r. ⌜ r ≡ unpacked (now (numbers .entry)) ⌝ }
 {
@@ -42,7 +42,7 @@ fn six(numbers: &[u64], from: usize) -> [usize; 6]
 }
 
 // Writes a record as numbers.
-pub fn store(numbers: &mut [u64], region: HeapMemoryRegion)
+pub(crate) fn store(numbers: &mut [u64], region: HeapMemoryRegion)
     requires { ⌜ length (now numbers) ≡ 21 ⌝ }
     ensures { λ _. ⌜ now (numbers .exit) ≡ packed region ⌝ }
 {
@@ -59,7 +59,7 @@ pub fn store(numbers: &mut [u64], region: HeapMemoryRegion)
 }
 
 // Writes six numbers from a place on.
-pub fn put_six(numbers: &mut [u64], from: usize, six: [usize; 6])
+pub(crate) fn put_six(numbers: &mut [u64], from: usize, six: [usize; 6])
     requires { ⌜ from + 6 ≤ length (now numbers) ⌝ }
     ensures { λ _. ⌜ now (numbers .exit) ≡ withSix (now (numbers .entry)) from six ⌝ }
 {

@@ -8,5 +8,6 @@ pub mod GrantLaws
 pub mod FreeLaws
 pub mod FileLaws
 pub mod Requests
+pub mod Refused
 pub mod Ways
 pub mod Keeps

@@ -62,8 +62,8 @@ found c =
     record {
       calls = played .0;
       lists = list 0 ∷ list 1 ∷ list 2 ∷ list 3 ∷ list 4 ∷ list 5 ∷ [];
-      blocks = report .«total_pages»;
-      frees = report .«free_pages»;
+      blocks = report .total;
+      frees = report .free;
       looks = map (λ x. (x .0, lookupPromise (end .region) (end .words) (x .0))) (c .looks);
     }
 
@@ -173,8 +173,8 @@ pub record OnR : Type 0 where
   pub freed : getD (then one (at toFree (page 60)) .words) 60 0 ≡ 0xFFFFFFFFFFFFF010
   pub file-out : getD (filed .words) 62 0 ≡ 0x14
   pub put-back : getD (then filed (at toPut (page 62)) .words) 62 0 ≡ 0x3000
-  pub counts : getD (reportPromise (R .region) (R .words) .«free_pages») 1 0 ≡ 1
-  pub counts-after : getD (reportPromise (one .region) (one .words) .«free_pages») 1 0 ≡ 0
+  pub counts : getD (reportPromise (R .region) (R .words) .free) 1 0 ≡ 1
+  pub counts-after : getD (reportPromise (one .region) (one .words) .free) 1 0 ≡ 0
   pub sound : auditPromise (R .region) (R .words) ≡ ok []
 
 pub on-R : OnR

@@ -1,6 +1,6 @@
 -- Each promise fixes what its function answers and leaves: two results that meet it are equal. A result tells what it answers, and what is told
 -- fixes the answer. These are results. Assumes nothing.
-use mathlib.Core.Path.{_≡_, sym, _∙_}
+use mathlib.Core.Path.{_≡_, sym, ap, _∙_}
 use mathlib.Core.List.{List}
 use Prim.Native.Nat.{ℕ}
 use Rattle.words.specs.Word.{decodeOf, encodeOf}
@@ -19,7 +19,7 @@ use Rattle.calls.specs.declared.Granted.{Granted}
 use Rattle.calls.specs.declared.Counted.{Counted}
 use Rattle.calls.proofs.Answers.{dones, grants, counts, layouts, told-one, result-one}
 use Rattle.heap.specs.Fields.{encodeFields}
-use Rattle.heap.specs.Promise.{emptyRegion, setUpPromise, allocatePromise, filePromise, slabPromise, freePromise, getPromise, putPromise, lookupPromise, auditPromise, reportPromise}
+use Rattle.heap.specs.Promise.{emptyRegion, setUpPromise, allocatePromise, filePromise, slabPromise, freePromise, getPromise, putPromise, lookupPromise, auditPromise, ReportTold, reportTold, reportPromise}
 use Rattle.heap.specs.declared.Report.{Report}
 
 -- at most one answer, with the words that it leaves, is as asked
@@ -69,8 +69,11 @@ module _ (r : HeapMemoryRegion) (ws : List ℕ) where
   pub lookup-one : (a : ℕ) → Answers Layout (λ x. layout x ≡ lookupPromise r ws a)
   lookup-one a x y e f = told-one layouts x y (e ∙ sym f)
 
-  pub report-one : Answers Report (λ x. x ≡ reportPromise r ws)
-  report-one x y e f = e ∙ sym f
+  pub report-one : Answers Report (λ x. reportTold x ≡ reportPromise r ws)
+  report-one x y e f =
+      let same : reportTold x ≡ reportTold y = e ∙ sym f in
+      let answers : x .answer ≡ y .answer = told-one dones _ _ (ap (λ (t : ReportTold). t .told) same) in
+      λ i. record { answer = answers i; «total_pages» = same i .total; «free_pages» = same i .free }
 
   pub audit-one : Answers Done (λ x. done x ≡ auditPromise r ws)
   audit-one x y e f = told-one dones x y (e ∙ sym f)

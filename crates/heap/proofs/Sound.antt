@@ -1,5 +1,5 @@
--- From sound input every call leaves sound output, of the code's types; from unsound input nothing changes, and the call says so. These are
--- results. Assumes nothing.
+-- From sound input every call leaves sound output, of the code's types; from unsound input nothing changes, and the call says so; a refusal
+-- changes nothing. These are results. Assumes nothing.
 use mathlib.Core.Path.{_≡_, refl}
 use mathlib.Core.Logic.{_≢_}
 use mathlib.Core.List.{List, []}
@@ -18,6 +18,7 @@ use Rattle.calls.specs.Told.{no, Result}
 use Rattle.calls.specs.Promise.{kept}
 use Rattle.calls.proofs.Good.{Good}
 use Rattle.calls.proofs.Requests.{Request, forBlock, forFile, forSlab, at, toFree, toGet, toPut, promised}
+use Rattle.calls.proofs.Refused.{refuses, either-stays, promised-stays}
 use Rattle.calls.proofs.Keeps.{keeps}
 use Rattle.heap.specs.Promise.{bare, emptyRegion, setUpPromise, audited, allocatePromise, filePromise, slabPromise, freePromise, getPromise, putPromise}
 use Rattle.heap.proofs.SetUps.{set-up-results}
@@ -49,6 +50,10 @@ module _ (r : HeapMemoryRegion) (ws : List ℕ) where
 
   pub damaged-kept : (Sound r ws → ⊥) → (x : Request) → promise x ≡ kept r ws (no 4 [])
   damaged-kept n x = rw (promise-audited x) (by-test (soundB r ws) (λ t. absurd (n (sound-decides r ws .yes t))) (λ t. rw t))
+
+  -- whatever came in: a call that tells a number other than 0 leaves record and words as they came
+  pub refused-kept : (x : Request) → promise x .told .number ≢ 0 → promise x ≡ kept r ws (promise x .told)
+  refused-kept x = rw (promise-audited x) (either-stays r ws (soundB r ws) (promised-stays r ws x) (refuses r ws _) .same)
 
 module _ (start : VirtAddr) (n a : ℕ) (ws : List ℕ) where
   -- a set-up that succeeds leaves sound output, and one that is refused the empty record and every word

@@ -11,7 +11,7 @@ use Rattle.words.specs.declared.place.VirtAddr.{VirtAddr}
 use Rattle.region.specs.declared.HeapMemoryRegion.{HeapMemoryRegion}
 use Rattle.calls.specs.Told.{Told, ok, no, Result}
 use Rattle.calls.proofs.Requests.{forBlock}
-use Rattle.heap.specs.Promise.{setUpPromise, allocatePromise, freePromise, putPromise, auditPromise, reportPromise}
+use Rattle.heap.specs.Promise.{setUpPromise, allocatePromise, freePromise, putPromise, auditPromise, ReportTold, reportTold, reportPromise}
 use Rattle.heap.specs.declared.Report.{Report}
 use Rattle.heap.proofs.Cases.{page, R, then, one, filed, on-R}
 
@@ -61,11 +61,11 @@ unfolding then
 not-idle-put = not-idle putPromise filed (page 62) 62 (λ e. omega (arith, on-R .file-out, on-R .put-back))
 
 -- a report whose counts do not come from the region
-pub not-invented : (f : HeapMemoryRegion → List ℕ → Report) → ((r : HeapMemoryRegion) (ws : List ℕ) → f r ws ≡ reportPromise r ws)
+pub not-invented : (f : HeapMemoryRegion → List ℕ → Report) → ((r : HeapMemoryRegion) (ws : List ℕ) → reportTold (f r ws) ≡ reportPromise r ws)
     → (counts : List ℕ) → ((r : HeapMemoryRegion) (ws : List ℕ) → f r ws .«free_pages» ≡ counts) → ⊥
 not-invented f keeps counts useless =
-    let at-R = sym (useless (R .region) (R .words)) ∙ ap (λ (x : Report). x .«free_pages») (keeps _ _) in
-    let after = sym (useless (one .region) (one .words)) ∙ ap (λ (x : Report). x .«free_pages») (keeps _ _) in
+    let at-R = sym (useless (R .region) (R .words)) ∙ ap (λ (x : ReportTold). x .free) (keeps _ _) in
+    let after = sym (useless (one .region) (one .words)) ∙ ap (λ (x : ReportTold). x .free) (keeps _ _) in
     let z : _≡_ {A = ℕ} 1 0 = sym (on-R .counts) ∙ ap (λ (l : List ℕ). getD l 1 0) (sym at-R ∙ after) ∙ on-R .counts-after in
     omega arith
 

@@ -11,10 +11,8 @@ use Rattle.buddy.specs.Rules.{setUp}
 use Rattle.region.specs.Layout.{maxPages, allocPages}
 use Rattle.region.specs.declared.HeapMemoryRegion.{HeapMemoryRegion}
 use Rattle.audit.specs.Check.{soundB}
-use Rattle.calls.specs.Told.{Told, ok, no, Result}
+use Rattle.calls.specs.Told.{Told, ok, no, done, Result}
 use Rattle.calls.specs.Promise.{kept, became, soundAllocate, soundFile, soundSlab, soundFree, soundGet, soundPut, soundLookup}
-use Rattle.calls.specs.declared.Done.{Done}
-use Rattle.calls.specs.declared.AllocError.{AllocError}
 use Rattle.heap.specs.declared.Report.{Report}
 
 -- a record without lists: "no pages, counts 0, no lists" where the numbers are 0
@@ -45,6 +43,15 @@ unfoldable pub setUpPromise : VirtAddr → ℕ → ℕ → List ℕ → Result
 setUpPromise start n a ws =
     let t = setUpTold (start .0) n a (length ws) in
     cond (eqb (t .number) 0) (became (bare start n a) (setUp a (allocPages n) .heap) t) (kept emptyRegion ws t)
+
+-- what a report tells: its answer, and both count arrays
+pub record ReportTold : Type 0 where
+  pub told : Told
+  pub total : List ℕ
+  pub free : List ℕ
+
+abbrev pub reportTold : Report → ReportTold
+reportTold x = record { told = done (x .answer); total = x .«total_pages»; free = x .«free_pages» }
 
 module _ (r : HeapMemoryRegion) (ws : List ℕ) where
   -- "Every public call but set-up, get_order, encode and decode audits soundness first": refusal 4, and nothing changes
@@ -85,7 +92,7 @@ module _ (r : HeapMemoryRegion) (ws : List ℕ) where
   auditPromise = auditedTold (ok [])
 
   -- REPORT (rule 8): both count arrays; zeros with a refusal
-  unfoldable pub reportPromise : Report
+  unfoldable pub reportPromise : ReportTold
   reportPromise = cond (soundB r ws)
-      (record { answer = Done.Ok; «total_pages» = r .«nr_pages»; «free_pages» = r .«free_pages» })
-      (record { answer = Done.Refused AllocError.Damaged; «total_pages» = replicate 6 0; «free_pages» = replicate 6 0 })
+      (record { told = ok []; total = r .«nr_pages»; free = r .«free_pages» })
+      (record { told = no 4 []; total = replicate 6 0; free = replicate 6 0 })

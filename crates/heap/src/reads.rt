@@ -1,7 +1,7 @@
 // The calls that only read: lookup, report and audit.
 ghost use mathlib.Core.Path.{_≡_};
 ghost use Rattle.calls.specs.Told.{done, layout};
-ghost use Rattle.heap.specs.Promise.{lookupPromise, reportPromise, auditPromise};
+ghost use Rattle.heap.specs.Promise.{lookupPromise, reportTold, reportPromise, auditPromise};
 use crate::Report;
 use calls::AllocError;
 use calls::Done;
@@ -22,7 +22,7 @@ pub fn layout_from_ptr(region: HeapMemoryRegion, words: &[u64], vaddr: VirtAddr)
 
 // Blocks and free blocks of each order.
 pub fn memory_info(region: HeapMemoryRegion, words: &[u64]) -> Report
-    ensures { λ r. ⌜ r ≡ reportPromise region (now (words .entry)) ⌝ }
+    ensures { λ r. ⌜ reportTold r ≡ reportPromise region (now (words .entry)) ⌝ }
 {
     if audit::audit(region, words) {
         let total_pages = region.nr_pages;
