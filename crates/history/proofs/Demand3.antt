@@ -2,7 +2,7 @@
 use mathlib.Core.Path.{_≡_, refl, sym, subst, _∙_}
 use mathlib.Core.Logic.{_↔_, inr, by-cases}
 use mathlib.Core.List.{List}
-use Prim.Native.Nat.{ℕ, zero, suc, _+_, _-_, _≤_}
+use Prim.Native.Nat.{ℕ, zero, suc, _-_, _≤_}
 use native.Mathlib.Nat.{le-refl}
 use native.Mathlib.Omega.{arith}
 use native.Mathlib.Decide.{decLe}
@@ -11,22 +11,23 @@ use Rattle.words.specs.declared.place.VirtAddr.{VirtAddr}
 use Rattle.buddy.specs.Heap.{file}
 use Rattle.buddy.specs.Rules.{refused, allocate, span}
 use Rattle.buddy.specs.History as Model
-use Rattle.buddy.specs.History.{stillOut, gets, puts, grantedAs}
+use Rattle.buddy.specs.History.{stillOut, grantedAs}
 use Rattle.buddy.specs.Demand as Of
 use Rattle.buddy.proofs.Spans.{span-in, span-out}
-use Rattle.buddy.proofs.Pages.{FilePage, file-page}
+use Rattle.buddy.proofs.Pages.{file-page}
 use Rattle.buddy.proofs.Demand3 as Proved
 use Rattle.region.specs.Layout.{endOf}
 use Rattle.region.specs.Image.{heapOf}
 use Rattle.region.specs.declared.HeapMemoryRegion.{HeapMemoryRegion}
 use Rattle.image.specs.Fine.{managed}
 use Rattle.calls.proofs.Good.{fine}
+use Rattle.calls.proofs.Heads.{file-said}
 use Rattle.history.specs.Calls.{Call, allocatePages, allocateFilePage, allocateSlabPage, Moment, after, Succeeded}
-use Rattle.history.specs.Demand.{addressOf, Out, Clear, WantsMemory, Demand3}
+use Rattle.history.specs.Demand.{addressOf, Out, Clear, WantsMemory, Counted, Demand3}
 use Rattle.history.proofs.Mirror.{Mirror, mirror}
 use Rattle.history.proofs.Renamed.{map-once}
 use Rattle.history.proofs.Now.{now, is-now, in-span, of-span, gets-now, puts-now, as-now, out-page, out-to, stands-to, stands-from, clear-to, clear-from, out-now, one-page}
-use Rattle.history.proofs.Told.{wants-block, wants-file, wants-slab, none-damaged, get-told, put-told}
+use Rattle.history.proofs.Told.{wants-block, wants-file, wants-slab, none-damaged, get-told, full-told, put-told}
 
 -- how many pages are managed
 span-count : (a e n : ℕ) → n ≤ e → count (span a e) n ≡ n - a
@@ -51,13 +52,20 @@ module _ {m : Moment} {xs : List Model.Call} (k : Mirror m xs) where
       (λ e d f. x .0 (w .0 e) d (clear-to k o d f), λ f. w .1 (x .1 (λ d g. f d (clear-from k o d g))))
 
   -- a file page has the count that its record says
-  file-at : (p : ℕ) → Out m 0 p → grantedAs (m .events) (addressOf m p) ≡ file 1 → (n : ℕ)
-      → n + puts (m .events) (addressOf m p) ≡ 1 + gets (m .events) (addressOf m p) → FilePage (managed r) (heapOf r (m .words) .at) p n
-  file-at p x g n e =
+  counted : (p : ℕ) → Out m 0 p → grantedAs (m .events) (addressOf m p) ≡ file 1 → Counted m p
+  counted p x g =
       let out = out-to k 0 p x in
       let is = rw (sym (as-now k p) ∙ g) at (demand .kinds 0 p out) in
-      let same : is .0 ≡ n = omega (arith, is .2, puts-now k p, gets-now k p) in
-      file-page (fine (k .good) .sound .core .tiled) (demand .inside 0 p p (inr out) refl) (rw same at (is .1))
+      let f = file-page (fine (k .good) .sound .core .tiled) (demand .inside 0 p p (inr out) refl) (is .1) in
+      record {
+        count = is .0;
+        some = f .positive;
+        word = file-said (k .good .sound) p (is .0) f;
+        since = omega (arith, is .2, puts-now k p, gets-now k p);
+        get = get-told (k .good) f;
+        full = full-told (k .good) f;
+        put = put-told (k .good) f;
+      }
 
   mirror-demand3 : Demand3 m
   unfolding heapOf
@@ -80,8 +88,7 @@ module _ {m : Moment} {xs : List Model.Call} (k : Mirror m xs) where
     want-file = none-clear allocateFilePage 0 (omega arith) (wants-file (k .good));
     want-slab = λ i. none-clear (allocateSlabPage i) 0 (omega arith) (wants-slab (k .good) i);
     sound = none-damaged (k .good);
-    gets-count = λ p x g n e. get-told (k .good) (file-at p x g n e);
-    puts-count = λ p x g n e. put-told (k .good) (file-at p x g n e);
+    files = counted;
   }
 
 -- THE THEOREM

@@ -11,6 +11,7 @@ use lib.ListN.{length}
 use Rattle.ground.specs.Numbers.{remove, Once, one, count}
 use Rattle.ground.proofs.Tests.{by-test, T-and, and-T}
 use Rattle.ground.proofs.Lists.{mem-of-remove, not-removed, mem-remove, once-remove}
+use Rattle.ground.proofs.Counts.{count-parts}
 use Rattle.ground.proofs.Bounds.{length-remove}
 use Rattle.buddy.specs.Runs.{Head}
 use Rattle.buddy.specs.Heap.{Kind, free, Tag, Listed, heads}
@@ -50,11 +51,6 @@ once-count f (suc n) l u is full = by-test (f n)
           (b .0, omega arith))
           (λ p k t. full p (omega arith) t),
     )))
-
-count-parts : (f g h : ℕ → Bool) (n : ℕ) → ((p : ℕ) → one (f p) ≡ one (g p) + one (h p)) → count f n ≡ count g n + count h n
-unfolding count
-count-parts f g h zero e = refl
-count-parts f g h (suc n) e = omega (arith, e n, count-parts f g h n e)
 
 two-parts : (a b c : Bool) → one (a && c) ≡ one ((a && b) && c) + one ((a && not b) && c)
 two-parts true true c = omega arith

@@ -2,7 +2,7 @@
 -- at that of a file page that was put as often as it was got. Assumes nothing.
 use mathlib.Core.Path.{_≡_, refl, ap, sym, subst, _∙_}
 use mathlib.Core.List.{List, [], _∷_}
-use Prim.Native.Nat.{ℕ}
+use Prim.Native.Nat.{ℕ, _-_}
 use native.Mathlib.Omega.{arith}
 use lib.ListN.{getD}
 use Rattle.words.specs.declared.place.VirtAddr.{VirtAddr}
@@ -60,7 +60,9 @@ module _ {m : Moment} {xs : List Model.Call} (k : Mirror m xs) where
       λ x.
           let y = out-page k 0 a (x .0) in
           let e = rw (y .2) at x in
-          rw (y .2) (d .puts-count (y .0) (e .0) (e .1) 1 (omega (arith, e .2))),
+          let f = d .files (y .0) (e .0) (e .1) in
+          let none : f .count - 1 ≡ 0 = omega (arith, f .since, e .2) in
+          rw (y .2) (rw none at (f .put)),
     );
   }
 

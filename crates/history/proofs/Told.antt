@@ -88,6 +88,11 @@ module _ {r : HeapMemoryRegion} {ws : List ℕ} (good : Good r ws) where
     get-told l =
         rw (called-promised good (at toGet (addressIn r p)), on-address (f .managed) _, file-said (good .sound) p n f, lt-ltb n (2 ^ 60 - 1) l)
 
+    pub full-told : 2 ^ 60 - 1 ≤ n → called r ws (getFilePage (addressIn r p)) .told ≡ no 11 (addressIn r p ∷ [])
+    unfolding soundGet
+    full-told l =
+        rw (called-promised good (at toGet (addressIn r p)), on-address (f .managed) _, file-said (good .sound) p n f, le-ltb n (2 ^ 60 - 1) l)
+
     pub put-told : called r ws (putFilePage (addressIn r p)) .told ≡ ok ((n - 1) ∷ [])
     unfolding soundPut
     put-told = rw (called-promised good (at toPut (addressIn r p)), on-address (f .managed) _, file-said (good .sound) p n f)

@@ -10,7 +10,7 @@ use Rattle.words.specs.declared.place.VirtAddr.{VirtAddr}
 use Rattle.buddy.specs.Heap.{used, slab, file}
 use Rattle.buddy.specs.History.{Event, took, gave, got, left}
 use Rattle.region.specs.declared.HeapMemoryRegion.{HeapMemoryRegion}
-use Rattle.calls.specs.Told.{Told, done, Result, result}
+use Rattle.calls.specs.Told.{Told, Result, result}
 use Rattle.heap.specs.Promise.{setUpPromise, allocatePromise, filePromise, slabPromise, freePromise, getPromise, putPromise, lookupPromise, reportPromise, auditPromise}
 
 -- a public call on a region, with any arguments; addresses as they are given
@@ -30,7 +30,7 @@ called r ws (freePage a) = freePromise r ws a
 called r ws (getFilePage a) = getPromise r ws a
 called r ws (putFilePage a) = putPromise r ws a
 called r ws (layoutFromPtr a) = result (lookupPromise r ws a) r ws
-called r ws memoryInfo = result (done (reportPromise r ws .answer)) r ws
+called r ws memoryInfo = result (reportPromise r ws .told) r ws
 called r ws audit = result (auditPromise r ws) r ws
 
 -- what f makes of the first value of an answer that is no refusal; of a refusal nothing

@@ -5,10 +5,13 @@ use mathlib.Core.Logic.{_≢_, _↔_, _⊎_}
 use mathlib.Core.List.{[], _∷_, List·Memᴰ}
 use lib.ListN.{getD}
 use Rattle.ground.specs.Numbers.{Once}
+use Rattle.words.specs.declared.word.Decoded.the-variants.{Info}
 use Rattle.buddy.specs.Runs.{cell, first, Head, buddy}
 use Rattle.buddy.specs.Heap.{file}
 use Rattle.buddy.specs.History.{stillOut, gets, puts, grantedAs}
 use Rattle.buddy.specs.Demand.{pagesIn, InOne}
+use Rattle.pages.specs.Info.{fileInfo}
+use Rattle.pages.specs.Said.{said}
 use Rattle.region.specs.Layout.{endOf}
 use Rattle.region.specs.Image.{heapOf}
 use Rattle.calls.specs.Told.{ok, no}
@@ -42,6 +45,16 @@ module _ (m : Moment) where
   abbrev pub WantsMemory : Call → Type 0
   WantsMemory c = called (m .region) (m .words) c .told ≡ no 6 []
 
+  -- page p is a file page: its word has a count, 1 or more, which is 1 plus gets less puts since its grant, and get and put answer by it
+  pub record Counted (p : ℕ) : Type 0 where
+    pub count : ℕ
+    pub some : 1 ≤ count
+    pub word : said (m .words) p ≡ Info (fileInfo count)
+    pub since : count + puts (m .events) (addressOf p) ≡ 1 + gets (m .events) (addressOf p)
+    pub get : count < 2 ^ 60 - 1 → called (m .region) (m .words) (getFilePage (addressOf p)) .told ≡ ok ((count + 1) ∷ [])
+    pub full : 2 ^ 60 - 1 ≤ count → called (m .region) (m .words) (getFilePage (addressOf p)) .told ≡ no 11 (addressOf p ∷ [])
+    pub put : called (m .region) (m .words) (putFilePage (addressOf p)) .told ≡ ok ((count - 1) ∷ [])
+
   pub record Demand3 : Type 0 where
     -- "the blocks still out by that record and the free blocks tile the managed pages, each page once"
     pub tile : (p : ℕ) → Managed p → InOne Free Out p
@@ -60,13 +73,8 @@ module _ (m : Moment) where
     pub want-slab : (i : ℕ) → WantsMemory (allocateSlabPage i) ↔ ((c : ℕ) → Clear 0 c → ⊥)
     -- no call answers 4
     pub sound : (c : Call) → called (m .region) (m .words) c .told .number ≢ 4
-    -- "a file page's count is 1 plus gets less puts since its grant", as get and put answer it
-    pub gets-count : (p : ℕ) → Out 0 p → grantedAs (m .events) (addressOf p) ≡ file 1 →
-        (n : ℕ) → n + puts (m .events) (addressOf p) ≡ 1 + gets (m .events) (addressOf p) → n < 2 ^ 60 - 1 →
-        called (m .region) (m .words) (getFilePage (addressOf p)) .told ≡ ok ((n + 1) ∷ [])
-    pub puts-count : (p : ℕ) → Out 0 p → grantedAs (m .events) (addressOf p) ≡ file 1 →
-        (n : ℕ) → n + puts (m .events) (addressOf p) ≡ 1 + gets (m .events) (addressOf p) →
-        called (m .region) (m .words) (putFilePage (addressOf p)) .told ≡ ok ((n - 1) ∷ [])
+    -- "a file page's count is 1 plus gets less puts since its grant"
+    pub files : (p : ℕ) → Out 0 p → grantedAs (m .events) (addressOf p) ≡ file 1 → Counted p
 
   -- the 2^o pages at address b are managed, and clear of blocks still out
   pub record Fresh (o b : ℕ) : Type 0 where
