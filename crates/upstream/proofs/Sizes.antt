@@ -7,19 +7,20 @@ use mathlib.Core.List.{List, [], _∷_, List·Memᴰ, List·Memᴰ·head, List·
 use Prim.Native.Nat.{ℕ, zero, suc, _+_, _*_, _^_, _≤_, _<_}
 use native.Mathlib.Nat.{mul-le-mul-left, mul-le-mul-right, le-mul-of-pos-right}
 use native.Mathlib.Omega.{arith}
-use native.Mathlib.Decide.{ℕ-discrete}
+use native.Mathlib.Decide.{ℕ-discrete, decLe}
 use lib.Dec.{T}
 use lib.Pow.{pow-pos, pow-mono}
 use lib.ListN.{length}
 use Rattle.ground.specs.Numbers.{update, Once, one, count}
 use Rattle.ground.proofs.Tests.{T-true}
 use Rattle.ground.proofs.Lists.{update-same, update-other}
-use Rattle.ground.proofs.Counts.{count-at}
+use Rattle.ground.proofs.Counts.{no-count, count-at}
 use Rattle.buddy.specs.Heap.{Heap, Core, heads}
 use Rattle.buddy.specs.Demand.{pagesIn}
 use Rattle.buddy.proofs.Tags.{order-of}
-use Rattle.buddy.proofs.Blocks.{heads-yes}
+use Rattle.buddy.proofs.Blocks.{heads-yes, heads-no}
 use Rattle.buddy.proofs.Paint.{BlockOut}
+use Rattle.buddy.proofs.Clear.{order-small}
 use Rattle.buddy.proofs.Steps.{push-core}
 use Rattle.buddy.proofs.Totals.{totals}
 use Rattle.buddy.proofs.Refill.{push-head}
@@ -51,21 +52,29 @@ pages-of-two f (suc k) i j l s = by-cases (ℕ-discrete j k)
     (λ e. omega (arith, pages-of-two f k i j l (omega arith)))
 
 module _ {M : ℕ → Bool} {n : ℕ} (bound : (p : ℕ) → T (M p) → p < n) {h : Heap} (k : Core M n h) where
-  -- the blocks of one order, with their size and without
-  pub blocks-fit : (o : ℕ) → o ≤ 5 → (h .blocks o * 2 ^ o ≤ count M n) × (h .blocks o ≤ count M n)
-  blocks-fit o l =
+  -- above order 5 there are none
+  none-above : (o : ℕ) → 5 < o → count (heads M (h .at) o) n ≡ 0
+  none-above o l = no-count _ n (λ p. heads-no M (h .at) o p (λ m e _. omega (arith, order-small M (h .at) (k .tiled) p m)))
+
+  -- the blocks of any one order, with their size and without; up to order 5 they are as many as the heap says (`Core.counted`)
+  pub blocks-fit : (o : ℕ) → (count (heads M (h .at) o) n * 2 ^ o ≤ count M n) × (count (heads M (h .at) o) n ≤ count M n)
+  blocks-fit o = by-cases (decLe o 5)
+      (λ l.
       let sized : h .blocks o * 2 ^ o ≤ count M n = omega (arith, totals M n bound h k, pages-of (h .blocks) 6 o (omega arith)) in
-      (sized, omega (arith, le-mul-of-pos-right (h .blocks o) (pow-pos o)))
+      rw (← k .counted o l) (sized, omega (arith, le-mul-of-pos-right (h .blocks o) (pow-pos o))))
+      (λ l. rw (none-above o (omega arith)) (omega arith, omega arith))
 
   -- and of two orders
-  pub pair-fits : (i j : ℕ) → i < j → j ≤ 5 → h .blocks i + h .blocks j * 2 ≤ count M n
-  pair-fits i j l s = omega (
-    arith,
-    totals M n bound h k,
-    pages-of-two (h .blocks) 6 i j l (omega arith),
-    le-mul-of-pos-right (h .blocks i) (pow-pos i),
-    mul-le-mul-left (h .blocks j) (pow-mono {i = 1} {j = j} (omega arith)),
-  )
+  pub pair-fits : (i j : ℕ) → i < j → count (heads M (h .at) i) n + count (heads M (h .at) j) n * 2 ≤ count M n
+  pair-fits i j l = by-cases (decLe j 5)
+      (λ s. rw (← k .counted i (omega arith), ← k .counted j s) (omega (
+        arith,
+        totals M n bound h k,
+        pages-of-two (h .blocks) 6 i j l (omega arith),
+        le-mul-of-pos-right (h .blocks i) (pow-pos i),
+        mul-le-mul-left (h .blocks j) (pow-mono {i = 1} {j = j} (omega arith)),
+      )))
+      (λ s. rw (none-above j (omega arith)) (omega (arith, blocks-fit i .1)))
 
   -- the free blocks of one order
   pub list-fits : (o : ℕ) → o ≤ 5 → (length (h .list o) * 2 ^ o ≤ count M n) × (length (h .list o) ≤ count M n)
@@ -74,9 +83,8 @@ module _ {M : ℕ → Bool} {n : ℕ} (bound : (p : ℕ) → T (M p) → p < n) 
       let some : length (h .list o) ≤ count (heads M (h .at) o) n = once-most n _ (h .list o) (ls .once) (λ p m.
       let f = ls .sound p m in
       (rw (heads-yes M (h .at) o p (f .managed) (order-of (f .is)) (f .head)) tt, bound p (f .managed))) in
-      let b = blocks-fit o l in
-      let all : length (h .list o) ≤ h .blocks o = rw (k .counted o l) some in
-      (omega (arith, mul-le-mul-right (2 ^ o) all), omega arith)
+      let b = blocks-fit o in
+      (omega (arith, mul-le-mul-right (2 ^ o) some), omega arith)
 
 -- before a block out is put on its list, there is room for it
 pub push-fits : {M : ℕ → Bool} {n : ℕ} → ((p : ℕ) → T (M p) → p < n) → {h : Heap} → Core M n h → (o c : ℕ) → o ≤ 5 → BlockOut M (h .at) o c

@@ -1,13 +1,14 @@
 -- Upstream packs a word by "or": the type's number, and each field masked and shifted up. Of fields that have a word that is the sum which
--- document 01's table says. This is a result. Assumes nothing.
+-- document 01's table says. A word's type comes back whatever its fields, and no next page reads as none. These are results.
+-- Assumes nothing.
 use mathlib.Core.Path.{_≡_, refl}
 use mathlib.Core.Bool.{true}
-use Prim.Native.Nat.{ℕ, _+_, _-_, _*_, _^_, _%_, _<_}
+use Prim.Native.Nat.{ℕ, _+_, _-_, _*_, _/_, _^_, _%_, _<_}
 use native.Mathlib.Omega.{arith}
 use lib.Bits.{bitAnd, bitOr, and-mask, or-shifted-r}
 use borrow.Author.Tests.{ltb-true}
 use Rattle.ground.proofs.Tests.{and-true}
-use Rattle.words.specs.Word.{maxOrder, nextField, inTable, wordOf}
+use Rattle.words.specs.Word.{maxOrder, noNext, noPage, nextPage, nextField, typeIn, inTable, wordOf}
 use Rattle.words.specs.declared.word.PageInfo.{PageInfo}
 use Rattle.words.specs.declared.word.PageInfo.the-variants.{Free, Allocated, Slab, Compound, File, Reserved}
 
@@ -37,3 +38,26 @@ word-or (Slab s) h = let o : s .«item_size» < 2 ^ 16 = ltb-true _ _ h in field
 word-or (Compound c) h = let o : c .order < maxOrder = ltb-true _ _ h in field-sum 3 8 (c .order) (omega arith) (omega arith)
 word-or (File f) h = or-shifted-r (f .«ref_count») 4 4 (omega arith)
 word-or (Reserved r) h = refl
+
+-- the type's number, by document 01's table
+abbrev pub typeOf : PageInfo → ℕ
+typeOf (Free f) = 0
+typeOf (Allocated a) = 1
+typeOf (Slab s) = 2
+typeOf (Compound c) = 3
+typeOf (File f) = 4
+typeOf (Reserved r) = 15
+
+-- also of fields that have no word
+pub type-back : (i : PageInfo) → typeIn (wordOf i) ≡ typeOf i
+type-back (Free f) = omega arith
+type-back (Allocated a) = omega arith
+type-back (Slab s) = omega arith
+type-back (Compound c) = omega arith
+type-back (File f) = omega arith
+type-back (Reserved r) = omega arith
+
+-- the field of no next page: it is what is left of noPage shifted down, shifting it up and down loses nothing, it reads as none, and none
+-- is written as it
+pub no-next : (noPage / 2 ^ 12 ≡ noNext) × (noNext * 2 ^ 12 / 2 ^ 12 ≡ noNext) × (nextPage noNext ≡ noPage) × (nextField noPage ≡ noNext)
+no-next = (refl, refl, refl, refl)
