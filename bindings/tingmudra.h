@@ -12,7 +12,10 @@
  * What the library cannot check, and its caller must see to:
  *   - a buffer is as long as its caller says, and lies at a multiple of 8;
  *   - record, words and report do not overlap;
- *   - no two threads use one region at once.
+ *   - no two threads use one region at once;
+ *   - the record's start and boot count are those of set-up: the words do not hold them, so a region whose start was
+ *     moved, or whose boot page is counted as a block, can be sound, and is then granted or freed from as it says. Keep
+ *     them where nothing else writes, and compare them when in doubt (docs/EXCEPTIONS.md).
  */
 #ifndef TINGMUDRA_H
 #define TINGMUDRA_H

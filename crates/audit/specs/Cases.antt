@@ -60,9 +60,9 @@ none = replicate 6 noPage
 abbrev freeBlock : ℕ → ℕ → List ℕ
 freeBlock o next = memOf (freeInfo o next) ∷ replicate (2 ^ o - 1) (memOf (compoundInfo o))
 
--- region R after set-up: lists 62, 3; 60; 56, 4; 48, 8; 32, 16; none
-abbrev pub r-region : HeapMemoryRegion
-r-region = region 1048576 64 3 (six 2 1 2 2 2 0) (six 2 1 2 2 2 0) (six 62 60 56 48 32 noPage)
+-- region R after set-up: lists 62, 3; 60; 56, 4; 48, 8; 32, 16; none. It is at 1048576, with 3 boot pages and 2 blocks of order 0
+abbrev r-at : ℕ → ℕ → ℕ → HeapMemoryRegion
+r-at start a singles = region start 64 a (six singles 1 2 2 2 0) (six 2 1 2 2 2 0) (six 62 60 56 48 32 noPage)
 
 abbrev pub r-words : List ℕ
 r-words =
@@ -118,7 +118,10 @@ out-words i = put 1 i (put 6 (freeInfo 0 noPage) s-words)
 
 unfoldable pub table : List Case
 table =
-    sound r-region r-words
+    sound (r-at 1048576 3 2) r-words
+    -- what no audit can see: another start; boot page 2 counted as a block that is out
+    ∷ sound (r-at 2097152 3 2) r-words
+    ∷ sound (r-at 1048576 2 3) r-words
     ∷ sound (idle-region 1) (idle-words 1)
     -- 63 boot pages in 64
     ∷ sound (idle-region 64) (idle-words 64)

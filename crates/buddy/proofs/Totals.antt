@@ -68,7 +68,7 @@ module _ (M : ℕ → Bool) (at : ℕ → Tag) (tiled : Tiled M at) where
     inside : T (M n) → start (at n .order) n < n → sumBelow weight n + n ≡ count M n + (start (at n .order) n + 2 ^ at n .order) → At n
 
   -- page n's block does not reach page n + 1
-  next-head : (n : ℕ) → (T (M n) → cell (at n .order) (suc n) ≢ cell (at n .order) n) → T (M (suc n)) → Head (at (suc n) .order) (suc n)
+  pub next-head : (n : ℕ) → (T (M n) → cell (at n .order) (suc n) ≢ cell (at n .order) n) → T (M (suc n)) → Head (at (suc n) .order) (suc n)
   next-head n apart m = by-cases (ℕ-discrete (start o (suc n)) (suc n))
       (λ e. e)
       (λ e. absurd (apart (b .inside n (near e)) (rw (b .same n (near e)) (sym (near e)))))

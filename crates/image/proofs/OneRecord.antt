@@ -1,14 +1,17 @@
--- The words with the region's place fix the record: blocks and free blocks are counted by the words, and the head of a list is the one page of
--- it that follows no other. So no damage to the record alone goes unseen. This is a result. Assumes nothing.
+-- Sound words fix the record but for the start and the boot pages: there are as many pages as words, blocks and free blocks are counted by the
+-- words, and the head of a list is the one page of it that follows no other. So damage to the other numbers alone is seen. The words do not name
+-- the start; and a boot page's word is that of a block out, so a record that counts one for the other is sound too (`cases` in `audit`). No audit
+-- can see these two. These are results. Assumes nothing.
 use mathlib.Core.Path.{_≡_, refl, sym, _∙_}
 use mathlib.Core.Logic.{_≢_, ⊎-elim}
 use mathlib.Core.List.{List, [], _∷_, List·Memᴰ, List·Memᴰ·head, List·Memᴰ·tail, List·Memᴰ·cases-cons, List·Memᴰ·not-nil}
-use Prim.Native.Nat.{ℕ, _≤_, _<_}
+use Prim.Native.Nat.{ℕ, _+_, _-_, _*_, _%_, _^_, _≤_, _<_}
 use native.Mathlib.Omega.{arith}
 use lib.ListN.{length, getD}
 use lib.Seq.{ext-getD}
 use Rattle.ground.specs.Numbers.{Once}
 use Rattle.words.specs.Word.{noPage}
+use Rattle.words.specs.declared.place.VirtAddr.{VirtAddr}
 use Rattle.pages.specs.Said.{said, nextIn}
 use Rattle.region.specs.Layout.{endOf}
 use Rattle.region.specs.Pages.{FreeList}
@@ -54,8 +57,8 @@ one-head {ws} small f g = linked-head f ∙ heads-same (λ p. nextIn (said ws p)
 
 -- ONE RECORD
 pub one-record : (r s : HeapMemoryRegion) (ws : List ℕ) → Typed r ws → Typed s ws → Sound r ws → Sound s ws
-    → r .«start_virt» ≡ s .«start_virt» → r .«page_count» ≡ s .«page_count» → r .allocated ≡ s .allocated → r ≡ s
-one-record r s ws t u x y a b c = λ i. record {
+    → r .«start_virt» ≡ s .«start_virt» → r .allocated ≡ s .allocated → r ≡ s
+one-record r s ws t u x y a c = λ i. record {
   «start_virt» = a i;
   «page_count» = b i;
   allocated = c i;
@@ -64,6 +67,9 @@ one-record r s ws t u x y a b c = λ i. record {
   «next_page» = six (r .«next_page») (s .«next_page») (t .heads) (u .heads) (λ o l. one-head small (list o l) (y .lists o l)) i;
 }
   where
+    b : r .«page_count» ≡ s .«page_count»
+    b = sym (x .limits .long) ∙ y .limits .long
+
     six : (v w : List ℕ) → length v ≡ 6 → length w ≡ 6 → ((o : ℕ) → o < 6 → getD v o 0 ≡ getD w o 0) → v ≡ w
     six v w m n same = ext-getD 0 v w (m ∙ sym n) (λ o l. same o (omega arith))
 
@@ -72,3 +78,35 @@ one-record r s ws t u x y a b c = λ i. record {
 
     list : (o : ℕ) → o < 6 → FreeList ws (s .allocated) (endOf s) o (getD (r .«next_page») o 0)
     list o l = rw (b, c) at (x .lists o l)
+
+-- the region at another start
+abbrev pub movedTo : VirtAddr → HeapMemoryRegion → HeapMemoryRegion
+movedTo start r = record {
+  «start_virt» = start;
+  «page_count» = r .«page_count»;
+  allocated = r .allocated;
+  «nr_pages» = r .«nr_pages»;
+  «free_pages» = r .«free_pages»;
+  «next_page» = r .«next_page»;
+}
+
+-- at every start that a region of so many pages may have, the words are as sound as they were
+pub moved-sound : (start : VirtAddr) (r : HeapMemoryRegion) (ws : List ℕ) → start .0 % 4096 ≡ 0 → start .0 + 4096 * r .«page_count» ≤ 2 ^ 64 - 1
+    → Sound r ws → Sound (movedTo start r) ws
+moved-sound start r ws aligned ends s = record {
+  limits = record {
+    some = s .limits .some;
+    most = s .limits .most;
+    long = s .limits .long;
+    aligned = aligned;
+    ends = ends;
+    boot = s .limits .boot;
+  };
+  boot = s .boot;
+  metadata = s .metadata;
+  tiled = s .tiled;
+  lists = s .lists;
+  buddies = s .buddies;
+  totals = s .totals;
+  free = s .free;
+}

@@ -3,7 +3,8 @@ use Prim.Native.Nat.{ℕ, _+_, _*_, _/_, _%_, _^_, _-_, _≤_}
 use mathlib.Core.Path.{_≡_}
 use Rattle.region.specs.declared.HeapMemoryRegion.{HeapMemoryRegion}
 
--- "1 to 4,096 pages": the limit is named here and nowhere else; proofs use only that it is at most 2^20
+-- "1 to 4,096 pages": the number stands here, and in the code's constant, which `pages_good` is proved to compare with it. Proofs use only that
+-- it is at most 2^20 (`pages-small`)
 unfoldable pub maxPages : ℕ
 maxPages = 4096
 
