@@ -5,6 +5,7 @@ use mathlib.Core.Bool.{Bool, true, false, cond, _&&_, _||_, Bool·beq}
 use mathlib.Core.List.{List, [], _∷_, _++_, map}
 use lib.Dec.{eqb, ltb, leb}
 use lib.ListN.{length, replicate, getD}
+use Rattle.ask.specs.Names.{decode, poke, field}
 use Rattle.ask.specs.declared.input.Number.{Number}
 use Rattle.ask.specs.declared.input.Number.the-variants.{Is, Bad}
 use Rattle.ask.specs.declared.input.Request.{Request}
@@ -55,15 +56,6 @@ numberOf base longest w =
 -- a name, as names.rt writes it: up to seven letters as a number to the base 256; 0 for what is none
 unfoldable pub nameOf : List ℕ → ℕ
 nameOf w = cond (leb (length w) 7 && every (λ b. leb 97 b) w) (valueFrom 256 (λ b. b) 0 w) 0
-
-abbrev pub decode : ℕ
-decode = 0x6465636f6465
-
-abbrev pub poke : ℕ
-poke = 0x706f6b65
-
-abbrev pub field : ℕ
-field = 0x6669656c64
 
 -- what the word number i of a request says: `decode` takes hex digits, `poke` a number and then hex digits, `field` a field's name and then numbers
 unfoldable pub saysAt : ℕ → ℕ → List ℕ → Number

@@ -1,8 +1,12 @@
 // The shell over the heap: a request is a line, and its answer is text. The record and the lent words stay between lines.
 // For the program `heapsh`, which reads lines and lends the buffers. Below it stand `ask`, which takes a line apart, `show`, which writes
-// text, and the calls of `heap`.
-ghost use Prim.Native.Nat.{_≤_};
-ghost use lib.ListN.{length};
+// text, and the calls of `heap`. What a line leaves stands in specs/Shell.antt; of `used` and of the text in `out` nothing is promised.
+ghost use mathlib.Core.Path.{_≡_};
+ghost use mathlib.Core.List.{_++_};
+ghost use Prim.Native.Nat.{_≤_, min};
+ghost use lib.ListN.{length, drop, replicate};
+ghost use Rattle.heap.specs.Promise.{emptyRegion};
+ghost use Rattle.shell.specs.Shell.{held, settled, answered};
 use crate::requests::act;
 use crate::steps::Answer;
 use crate::steps::Step;
@@ -31,7 +35,9 @@ pub struct Shell {
     pub used: usize,
 }
 
-pub fn fresh() -> Shell {
+pub fn fresh() -> Shell
+    ensures { λ r. ⌜ r ≡ record { region = emptyRegion; lent = 0; used = 0 } ⌝ }
+{
     Shell {
         region: empty_region(),
         lent: 0,
@@ -40,7 +46,9 @@ pub fn fresh() -> Shell {
 }
 
 // Answers a line. The buffer has at least the words that are lent.
-pub fn answer(shell: Shell, line: &[u8], buffer: &mut [u64], out: &mut [u8]) -> Shell {
+pub fn answer(shell: Shell, line: &[u8], buffer: &mut [u64], out: &mut [u8]) -> Shell
+    ensures { λ r. ⌜ held (r .region) (r .lent) (now (buffer .exit)) ≡ answered (shell .region) (shell .lent) (now (buffer .entry)) (now (line .entry)) ⌝ }
+{
     let region = shell.region;
     let lent = shell.lent;
     let used = shell.used;
@@ -54,6 +62,7 @@ pub fn answer(shell: Shell, line: &[u8], buffer: &mut [u64], out: &mut [u8]) -> 
 // Writes the answer, and lends other words if it says so.
 fn finish(done: Step, lent: usize, used: usize, buffer: &mut [u64], out: &mut [u8]) -> Shell
     requires { ⌜ lent ≤ length (now buffer) ⌝ }
+    ensures { λ r. ⌜ held (r .region) (r .lent) (now (buffer .exit)) ≡ settled (done .region) lent (now (buffer .entry)) (done .answer) ⌝ }
 {
     let region = done.region;
     let answer = done.answer;
@@ -77,7 +86,9 @@ fn finish(done: Step, lent: usize, used: usize, buffer: &mut [u64], out: &mut [u
 }
 
 // Makes the first `n` words Reserved, as far as there are so many.
-fn reserve(buffer: &mut [u64], n: usize) -> usize {
+fn reserve(buffer: &mut [u64], n: usize) -> usize
+    ensures { λ r. ⌜ (r ≡ min n (length (now (buffer .entry)))) × (now (buffer .exit) ≡ replicate r 15 ++ drop r (now (buffer .entry))) ⌝ }
+{
     let mut i: usize = 0;
     while i < n {
         if buffer.len() <= i {

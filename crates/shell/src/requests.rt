@@ -1,4 +1,11 @@
 // What each request does.
+ghost use mathlib.Core.Path.{_≡_};
+ghost use mathlib.Core.List.{List};
+ghost use Prim.Native.Nat.{ℕ};
+ghost use Rattle.region.specs.declared.HeapMemoryRegion.{HeapMemoryRegion};
+ghost use Rattle.ask.specs.Names as Name;
+ghost use Rattle.shell.specs.Request.{did, alone, reads, withNumber, withTwo, withThree, acted};
+ghost use Rattle.shell.specs.declared.steps.Answer.{Answer};
 use crate::MOST_WORDS;
 use crate::record::field;
 use crate::steps::Answer;
@@ -34,7 +41,9 @@ use show::answer::bare;
 use words::place::VirtAddr;
 
 // Does what a request asks for. It is known by its name and the count of its words.
-pub fn act(region: HeapMemoryRegion, words: &mut [u64], request: Request) -> Step {
+pub fn act(region: HeapMemoryRegion, words: &mut [u64], request: Request) -> Step
+    ensures { λ r. ⌜ did (r .region) (now (words .exit)) (r .answer) ≡ acted region (now (words .entry)) request ⌝ }
+{
     let count = request.count;
     let values = request.values;
     let name = values[0];
@@ -48,7 +57,9 @@ pub fn act(region: HeapMemoryRegion, words: &mut [u64], request: Request) -> Ste
 }
 
 // A name alone.
-fn plain(region: HeapMemoryRegion, words: &mut [u64], name: u64) -> Step {
+fn plain(region: HeapMemoryRegion, words: &mut [u64], name: u64) -> Step
+    ensures { λ r. ⌜ did (r .region) (now (words .exit)) (r .answer) ≡ alone region (now (words .entry)) name ⌝ }
+{
     match name {
         names::FILE => granted(allocate_file_page(region, words)),
         names::AUDIT => said(region, of_done(audit(region, words))),
@@ -61,7 +72,9 @@ fn plain(region: HeapMemoryRegion, words: &mut [u64], name: u64) -> Step {
 }
 
 // A name and a number.
-fn with_number(region: HeapMemoryRegion, words: &mut [u64], name: u64, n: u64) -> Step {
+fn with_number(region: HeapMemoryRegion, words: &mut [u64], name: u64, n: u64) -> Step
+    ensures { λ r. ⌜ did (r .region) (now (words .exit)) (r .answer) ≡ withNumber region (now (words .entry)) name n ⌝ }
+{
     match name {
         names::ALLOC => granted(allocate_pages(region, words, n as usize)),
         names::SLAB => granted(allocate_slab_page(region, words, n)),
@@ -74,7 +87,9 @@ fn with_number(region: HeapMemoryRegion, words: &mut [u64], name: u64, n: u64) -
 }
 
 // A name and a number, where nothing changes.
-fn read_with(region: HeapMemoryRegion, words: &[u64], name: u64, n: u64) -> Line {
+fn read_with(region: HeapMemoryRegion, words: &[u64], name: u64, n: u64) -> Line
+    ensures { λ r. ⌜ r ≡ reads region (now (words .entry)) name n ⌝ }
+{
     match name {
         names::LOOKUP => of_layout(layout_from_ptr(region, words, VirtAddr(n))),
         names::WORD => word_at(words, n as usize),
@@ -85,7 +100,9 @@ fn read_with(region: HeapMemoryRegion, words: &[u64], name: u64, n: u64) -> Line
 }
 
 // So many words, all Reserved, and the empty record.
-fn lend(region: HeapMemoryRegion, n: usize) -> Step {
+fn lend(region: HeapMemoryRegion, n: usize) -> Step
+    ensures { λ r. ⌜ ((ws : List ℕ) → did (r .region) ws (r .answer) ≡ withNumber region ws Name.words n) ⌝ }
+{
     if n <= MOST_WORDS {
         Step {
             region: empty_region(),
@@ -96,7 +113,9 @@ fn lend(region: HeapMemoryRegion, n: usize) -> Step {
     }
 }
 
-fn word_at(words: &[u64], i: usize) -> Line {
+fn word_at(words: &[u64], i: usize) -> Line
+    ensures { λ l. ⌜ ((r : HeapMemoryRegion) → l ≡ reads r (now (words .entry)) Name.word i) ⌝ }
+{
     if i < words.len() {
         bare(Word::Hex(words[i]))
     } else {
@@ -105,14 +124,18 @@ fn word_at(words: &[u64], i: usize) -> Line {
 }
 
 // A name and two numbers.
-fn with_two(words: &mut [u64], name: u64, x: u64, y: u64) -> Line {
+fn with_two(words: &mut [u64], name: u64, x: u64, y: u64) -> Line
+    ensures { λ l. ⌜ ((r : HeapMemoryRegion) → did r (now (words .exit)) (Answer.Line l) ≡ withTwo r (now (words .entry)) name x y) ⌝ }
+{
     match name {
         names::POKE => poke(words, x as usize, y),
         _ => bad(),
     }
 }
 
-fn poke(words: &mut [u64], i: usize, w: u64) -> Line {
+fn poke(words: &mut [u64], i: usize, w: u64) -> Line
+    ensures { λ l. ⌜ ((r : HeapMemoryRegion) → did r (now (words .exit)) (Answer.Line l) ≡ withTwo r (now (words .entry)) Name.poke i w) ⌝ }
+{
     if i < words.len() {
         words[i] = w;
         bare(Word::Ok)
@@ -129,7 +152,9 @@ fn with_three(
     x: u64,
     y: u64,
     z: u64,
-) -> Step {
+) -> Step
+    ensures { λ r. ⌜ did (r .region) (now (words .exit)) (r .answer) ≡ withThree region (now (words .entry)) name x y z ⌝ }
+{
     match name {
         names::SETUP => finished(root_mem_init(VirtAddr(x), y as usize, z as usize, words)),
         names::FIELD => field(region, x, y as usize, z),

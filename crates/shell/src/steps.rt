@@ -1,4 +1,8 @@
 // What a request comes to: the record after it, and the answer.
+ghost use mathlib.Core.Path.{_≡_};
+ghost use Rattle.calls.specs.Told.{done, grant, count};
+ghost use Rattle.reply.specs.Answer.{lineOf};
+ghost use Rattle.shell.specs.Request.{step};
 use calls::Counted;
 use calls::Finished;
 use calls::Granted;
@@ -22,26 +26,34 @@ pub struct Step {
     pub answer: Answer,
 }
 
-pub fn said(region: HeapMemoryRegion, line: Line) -> Step {
+pub fn said(region: HeapMemoryRegion, line: Line) -> Step
+    ensures { λ r. ⌜ r ≡ step region line ⌝ }
+{
     Step {
         region,
         answer: Answer::Line(line),
     }
 }
 
-pub fn granted(call: Granted) -> Step {
+pub fn granted(call: Granted) -> Step
+    ensures { λ r. ⌜ r ≡ step (call .region) (lineOf (grant (call .answer))) ⌝ }
+{
     let region = call.region;
     let grant = call.answer;
     said(region, of_grant(grant))
 }
 
-pub fn finished(call: Finished) -> Step {
+pub fn finished(call: Finished) -> Step
+    ensures { λ r. ⌜ r ≡ step (call .region) (lineOf (done (call .answer))) ⌝ }
+{
     let region = call.region;
     let done = call.answer;
     said(region, of_done(done))
 }
 
-pub fn counted(call: Counted) -> Step {
+pub fn counted(call: Counted) -> Step
+    ensures { λ r. ⌜ r ≡ step (call .region) (lineOf (count (call .answer))) ⌝ }
+{
     let region = call.region;
     let count = call.answer;
     said(region, of_count(count))

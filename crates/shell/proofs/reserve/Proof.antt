@@ -1,16 +1,34 @@
--- `shell::reserve` ends and is safe. The loop's invariant: the buffer keeps its length. Assumes nothing.
-use Prim.Native.Nat.{_-_}
-use mathlib.Core.Path.{_≡_}
-use lib.ListN.{length}
+-- `shell::reserve` meets its contract. The loop's invariant: the first i words are Reserved, and the others are as they were.
+-- Assumes nothing.
+use Prim.Native.Nat.{_-_, _≤_}
+use native.Mathlib.Omega.{arith}
+use mathlib.Core.Path.{_≡_, refl}
+use mathlib.Core.List.{_++_}
+use lib.ListN.{length, drop, replicate, length-set}
+use borrow.Author.Fill.{fill-more}
 use borrow.Author.Needs.{needs}
 use Rattle.shell.proofs.reserve.Statement.{statement}
 use Rattle.shell.proofs.reserve.Tie as tie
 
 abbrev Inv-loop : tie.InvT-loop
-Inv-loop buffer₀ n i₀ buffer i = length buffer ≡ length buffer₀
+Inv-loop buffer₀ n i₀ buffer i = (i ≤ n) × (i ≤ length buffer₀) × (length buffer ≡ length buffer₀) × (buffer ≡ replicate i 15 ++ drop i buffer₀)
 
 abbrev μ-loop : tie.MeasureT-loop
 μ-loop buffer₀ n i₀ buffer i = n - i
+
+loop-holds : tie.Need-loop-holds Inv-loop μ-loop
+loop-holds c = (omega arith, omega arith, refl, refl)
+
+returns : tie.Need-returns Inv-loop μ-loop
+returns c = (omega arith, c .before .before .loop .inv .3)
+
+loop-again : tie.Need-loop-again Inv-loop μ-loop
+loop-again c =
+    let l = c .before .before in
+    (omega arith, omega arith, simp length-set (omega arith), rw (l .loop .inv .3) (fill-more (l .loop .i) 15 _ (omega arith)))
+
+returns-2 : tie.Need-returns-2 Inv-loop μ-loop
+returns-2 c = (omega arith, c .before .loop .inv .3)
 
 pub reserve-spec : {M : Type 1} → statement M
 reserve-spec =
@@ -18,13 +36,13 @@ reserve-spec =
     (tie.spec
     Inv-loop
     μ-loop
+    loop-holds
+    (λ c. search needs)
+    returns
     (λ c. search needs)
     (λ c. search needs)
     (λ c. search needs)
     (λ c. search needs)
+    loop-again
     (λ c. search needs)
-    (λ c. search needs)
-    (λ c. search needs)
-    (λ c. search needs)
-    (λ c. search needs)
-    (λ c. search needs))
+    returns-2)

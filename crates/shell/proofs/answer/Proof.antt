@@ -1,0 +1,34 @@
+-- `shell::answer` meets its contract: `act` has the first words, and `finish` those that it left, before the others. Assumes nothing.
+use native.Mathlib.Nat.{sub-zero}
+use borrow.Author.Needs.{needs}
+use borrow.Author.Tests.{le-leb, lt-leb}
+use Rattle.shell.specs.Shell.{answered}
+use Rattle.shell.proofs.answer.Statement.{statement}
+use Rattle.shell.proofs.answer.Tie as tie
+
+returns : tie.Need-returns
+unfolding answered
+returns c = simp (lt-leb _ _ (c .if1 .taken))
+
+returns-2 : tie.Need-returns-2
+unfolding answered
+returns-2 c =
+    let f = c .before .before .before .before in
+    let a = f .before .before .before .before .before in
+    let done = rw (sub-zero, a .before .parse .ensures) at (a .act .ensures) in
+    simp (le-leb _ _ (a .before .before .before .if1 .left), ← done) (rw sub-zero at (f .finish .ensures))
+
+pub answer-spec : {M : Type 1} → statement M
+answer-spec =
+    tie.close
+    (tie.spec
+    returns
+    (λ c. search needs)
+    (λ c. search needs)
+    (λ c. search needs)
+    (λ c κs. search needs)
+    (λ c κs. search needs)
+    (λ c κs. search needs)
+    (λ c. search needs)
+    (λ c. search needs)
+    returns-2)

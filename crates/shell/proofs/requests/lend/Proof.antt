@@ -1,0 +1,17 @@
+-- `shell::requests::lend` meets its contract: its test is the one of `withNumber`. Assumes nothing.
+use borrow.Author.Needs.{needs}
+use borrow.Author.Tests.{le-leb, lt-leb}
+use Rattle.shell.specs.Request.{withNumber}
+use Rattle.shell.proofs.requests.lend.Statement.{statement}
+use Rattle.shell.proofs.requests.lend.Tie as tie
+
+pub lend-spec : {M : Type 1} → statement M
+unfolding withNumber
+lend-spec =
+    tie.close
+    (tie.spec
+    (λ c κs. search needs)
+    (λ c κs. search needs)
+    (λ c κs. search needs)
+    (λ c ws. simp (c .empty-region .ensures, le-leb _ _ (c .before .if1 .taken)))
+    (λ c ws. simp (c .said .ensures, c .before .bad .ensures, lt-leb _ _ (c .before .before .if1 .left))))

@@ -1,0 +1,19 @@
+-- `shell::requests::poke` meets its contract: its test is the one of `withTwo`. Assumes nothing.
+use borrow.Author.Needs.{needs}
+use borrow.Author.Tests.{lt-ltb, le-ltb}
+use Rattle.shell.specs.Request.{withTwo}
+use Rattle.shell.proofs.requests.poke.Statement.{statement}
+use Rattle.shell.proofs.requests.poke.Tie as tie
+
+pub poke-spec : {M : Type 1} → statement M
+unfolding withTwo
+poke-spec =
+    tie.close
+    (tie.spec
+    (λ c. search needs)
+    (λ c. search needs)
+    (λ c κs. search needs)
+    (λ c κs. search needs)
+    (λ c. search needs)
+    (λ c r. simp (c .bare .ensures, lt-ltb _ _ (c .before .if1 .taken)))
+    (λ c r. simp (c .bare2 .ensures, le-ltb _ _ (c .before .if1 .left))))

@@ -1,0 +1,29 @@
+-- `shell::requests::with_three` meets its contract: the arms of the match are the cases of the definition. Assumes nothing.
+use borrow.Author.Needs.{needs}
+use borrow.Author.Tests.{ne-eqb}
+use Rattle.shell.specs.Request.{withThree}
+use Rattle.shell.proofs.requests.with_three.Statement.{statement}
+use Rattle.shell.proofs.requests.with_three.Tie as tie
+
+pub with-three-spec : {M : Type 1} → statement M
+unfolding withThree
+with-three-spec =
+    tie.close
+    (tie.spec
+    (λ c κs. search needs)
+    (λ c κs. search needs)
+    (λ c κs. search needs)
+    (λ c κs. search needs)
+    (λ c κs. search needs)
+    (λ c κs. search needs)
+    (λ c κs. search needs)
+    (λ c κs. search needs)
+    (λ c. search needs)
+    (λ c.
+    let h = c .before .before .before in
+    simp (h .before .before .match .keys1, c .finished .ensures, ← h .root-mem-init .ensures))
+    (λ c. simp (c .before .match .keys2) (c .field .ensures _))
+    (λ c. simp (c .before .before .before .match .keys3, c .said .ensures, c .before .of-encoded .ensures, c .before .before .encode-fields .ensures))
+    (λ c.
+    let r = c .before .before .match .rest in
+    simp (c .said2 .ensures, c .before .bad .ensures, ne-eqb _ _ (r .0 .0 .1), ne-eqb _ _ (r .0 .1), ne-eqb _ _ (r .1))))

@@ -1,0 +1,18 @@
+-- `shell::requests::word_at` meets its contract: its test is the one of `reads`. Assumes nothing.
+use borrow.Author.Needs.{needs}
+use borrow.Author.Tests.{lt-ltb, le-ltb}
+use Rattle.shell.specs.Request.{reads}
+use Rattle.shell.proofs.requests.word_at.Statement.{statement}
+use Rattle.shell.proofs.requests.word_at.Tie as tie
+
+pub word-at-spec : {M : Type 1} → statement M
+unfolding reads
+word-at-spec =
+    tie.close
+    (tie.spec
+    (λ c. search needs)
+    (λ c. search needs)
+    (λ c κs. search needs)
+    (λ c κs. search needs)
+    (λ c r. simp (c .bare .ensures, lt-ltb _ _ (c .before .before .if1 .taken)))
+    (λ c r. simp (c .bare2 .ensures, le-ltb _ _ (c .before .if1 .left))))
