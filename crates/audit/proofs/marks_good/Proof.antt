@@ -1,5 +1,4 @@
 -- `audit::marks_good` meets its contract: the tests are those of its two lines. Assumes nothing.
-use native.Mathlib.Omega.{arith}
 use mathlib.Core.Bool.{and-true}
 use borrow.Author.Needs.{needs}
 use Rattle.audit.specs.Check.{keeps}

@@ -1,5 +1,4 @@
 -- `audit::stocks_good` meets its contract: the tests are those of its five lines, by what the walk found. Assumes nothing.
-use native.Mathlib.Omega.{arith}
 use mathlib.Core.Path.{sym, _∙_}
 use borrow.Author.Needs.{needs}
 use borrow.Author.Tests.{not-true, not-false}
