@@ -4,6 +4,7 @@ use native.Mathlib.Omega.{arith}
 use mathlib.Core.Path.{_≡_, sym, _∙_}
 use mathlib.Core.Bool.{true, _&&_, and-true}
 use lib.Dec.{leb}
+use lib.ListN.{length}
 use borrow.Author.Needs.{needs}
 use borrow.Author.Tests.{le-leb, lt-leb, eq-eqb, ne-eqb}
 use Rattle.region.specs.Layout.{maxPages}
@@ -33,7 +34,7 @@ unfolding keeps
 returns-2 c =
     let a = c .before .before .before .before .args in
     sym (first-two (a .region) (a .words .now)
-    ∙ rw (good (c .before), ne-eqb _ _ (c .if2 .taken)))
+    ∙ rw (good (c .before), ne-eqb (length (a .words .now)) (a .region .«page_count») (c .if2 .taken)))
 
 returns-3 : tie.Need-returns-3
 unfolding keeps

@@ -44,7 +44,9 @@ returns c = rw (failed (c .before .pages-good .ensures) (c .if1 .taken))
 
 returns-2 : tie.Need-returns-2
 unfolding setUpTold
-returns-2 c = rw (good (c .before), ne-eqb _ _ (c .if2 .taken))
+returns-2 c =
+    let s = c .before .before .before .args in
+    rw (good (c .before), ne-eqb (s .words) (s .page-count) (c .if2 .taken))
 
 returns-3 : tie.Need-returns-3
 unfolding setUpTold
