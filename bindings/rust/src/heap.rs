@@ -88,7 +88,8 @@ impl<'a> Heap<'a> {
         Ok(Report { total_pages: [t0, t1, t2, t3, t4, t5], free_pages: [f0, f1, f2, f3, f4, f5] })
     }
 
-    /// Whether record and words are sound. Refused with 4 if not.
+    /// Whether record and words are sound. Refused with 4 if not. A start or a boot count that something else wrote over
+    /// can pass, since the words do not hold them: keep these two elsewhere, and compare.
     pub fn audit(&self) -> Result<(), Refusal> {
         raw::audit(numbers(&self.region), self.words).result().map(drop)
     }
