@@ -1,7 +1,5 @@
--- What a call leaves fixes its answer, its numbers and its words. So two that meet a promise are equal. This is a result. Assumes nothing.
-use Prim.Native.Nat.{ℕ}
-use mathlib.Core.Path.{_≡_, sym, ap, _∙_}
-use mathlib.Core.List.{List}
+-- What a call leaves fixes its answer, its numbers and its words. So two that meet a promise are equal. This is a result.
+use Rattle.common.specs.Kit.{ℕ, _≡_, sym, ap, _∙_, List}
 use Rattle.abi.specs.Promise.{Left, left}
 use Rattle.abi.specs.declared.answer.Answer.{Answer}
 

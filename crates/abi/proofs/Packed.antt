@@ -1,11 +1,8 @@
 -- A record is written in parts of six, from the end on: a part leaves what stands behind it. Read, the parts make up the list.
--- Assumes nothing.
-use Prim.Native.Nat.{ℕ, _+_, _≤_}
-use mathlib.Core.Path.{_≡_, _∙_}
-use mathlib.Core.List.{List, [], _∷_, _++_, append-nil}
-use native.Mathlib.Omega.{arith}
-use lib.ListN.{length, take, drop, set, length-drop, take-append-drop, drop-of-length-le}
-use lib.Seq.{sets-eq, length-take-le, take-all, drop-drop, drop-cons, take-at, drop-at}
+use Rattle.common.specs.Kit.{ℕ, _+_, _≤_, _≡_, _∙_, List, [], _∷_, _++_, length, set, take, drop, length-drop, drop-of-length-le, drop-cons, take-all, arith}
+use mathlib.Core.List.{append-nil}
+use lib.ListN.{take-append-drop}
+use lib.Seq.{sets-eq, length-take-le, drop-drop, take-at, drop-at}
 use Rattle.region.specs.declared.HeapMemoryRegion.{HeapMemoryRegion}
 use Rattle.abi.specs.Record.{packed, unpacked, sixFrom, withSix}
 

@@ -1,11 +1,8 @@
--- A refusal's number is not 0, and it carries no second value: by cases. Assumes nothing.
-use mathlib.Core.Path.{_≡_, refl}
-use mathlib.Core.Bool.{false}
-use lib.Dec.{eqb}
-use lib.ListN.{getD}
-use Rattle.calls.specs.Told.{refusal}
-use Rattle.calls.specs.declared.AllocError.{AllocError}
-use Rattle.calls.specs.declared.AllocError.the-variants.{BadCount, BadStart, TooManyBoot, Damaged, InvalidPageOrder, OutOfMemory, InvalidHeapAddress, BootPage, InvalidPageType, InvalidFilePage, RefFull, InvalidItem}
+-- A refusal's number is not 0, and it carries no second value: by cases.
+use Rattle.common.specs.Kit.{_≡_, refl, false, eqb, getD}
+use Rattle.sound_calls.specs.Told.{refusal}
+use Rattle.sound_calls.specs.declared.AllocError.{AllocError}
+use Rattle.sound_calls.specs.declared.AllocError.the-variants.{BadCount, BadStart, TooManyBoot, Damaged, InvalidPageOrder, OutOfMemory, InvalidHeapAddress, BootPage, InvalidPageType, InvalidFilePage, RefFull, InvalidItem}
 
 pub refusal-shape : (e : AllocError) → (eqb (refusal e .number) 0 ≡ false) × (getD (refusal e .values) 1 0 ≡ 0)
 refusal-shape BadCount = (refl, refl)

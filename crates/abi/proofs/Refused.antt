@@ -1,14 +1,8 @@
 -- A call that answers a number other than 0 leaves its buffers as they came: the record's numbers and the words, and of a report its numbers.
--- Only a refused set-up writes: the empty record. These are results. Assumes nothing.
-use Prim.Native.Nat.{ℕ}
-use mathlib.Core.Path.{_≡_, refl, ap, _∙_}
-use mathlib.Core.Logic.{_≢_, by-cases}
-use mathlib.Core.List.{List}
-use native.Mathlib.Decide.{ℕ-discrete}
-use lib.ListN.{length}
-use borrow.Author.Tests.{eq-eqb, ne-eqb}
-use Rattle.calls.specs.Told.{Result}
-use Rattle.calls.proofs.Requests.{Request, forBlock, forFile, forSlab, at, toFree, toGet, toPut}
+-- Only a refused set-up writes: the empty record. These are results.
+use Rattle.common.specs.Kit.{ℕ, _≡_, refl, ap, _∙_, _≢_, by-cases, List, length, ℕ-discrete, eq-eqb, ne-eqb}
+use Rattle.sound_calls.specs.Told.{Result}
+use Rattle.sound_calls.proofs.Requests.{Request, forBlock, forFile, forSlab, at, toFree, toGet, toPut}
 use Rattle.heap.specs.Promise.{emptyRegion, reportPromise}
 use Rattle.heap.proofs.Sound.{promise, refused-kept, set-up-refuses}
 use Rattle.abi.specs.Record.{packed, unpacked}

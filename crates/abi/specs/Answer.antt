@@ -1,6 +1,6 @@
 -- An answer as numbers: its number, 0 for none, and the values that it carries, zeros where it carries less than two.
-use lib.ListN.{getD}
-use Rattle.calls.specs.Told.{Told}
+use Rattle.common.specs.Kit.{getD}
+use Rattle.sound_calls.specs.Told.{Told}
 use Rattle.abi.specs.declared.answer.Answer.{Answer}
 
 abbrev pub answerOf : Told → Answer

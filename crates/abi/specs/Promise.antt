@@ -1,12 +1,8 @@
 -- What each exported call promises, for all input: its answer and every number of its buffers. A record of 21 numbers is a region's, and the call
 -- does what the heap promises of that region; a buffer of another length is refused with 13, and nothing changes.
-use Prim.Native.Nat.{ℕ}
-use mathlib.Core.Bool.{cond}
-use mathlib.Core.List.{List, [], _++_}
-use lib.Dec.{eqb}
-use lib.ListN.{length}
+use Rattle.common.specs.Kit.{ℕ, cond, List, [], _++_, eqb, length}
 use Rattle.region.specs.declared.HeapMemoryRegion.{HeapMemoryRegion}
-use Rattle.calls.specs.Told.{Told, ok, no, result, Result}
+use Rattle.sound_calls.specs.Told.{Told, ok, no, result, Result}
 use Rattle.heap.specs.Promise.{emptyRegion, setUpPromise, allocatePromise, filePromise, slabPromise, freePromise, getPromise, putPromise, lookupPromise, auditPromise, reportPromise}
 use Rattle.abi.specs.Answer.{answerOf}
 use Rattle.abi.specs.Record.{packed, unpacked}

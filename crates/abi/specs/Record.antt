@@ -1,7 +1,5 @@
 -- The record as 21 numbers: start, page count and boot pages, then blocks, free blocks and list heads, each by order.
-use Prim.Native.Nat.{ℕ, _+_}
-use mathlib.Core.List.{List, _∷_, _++_}
-use lib.ListN.{take, drop, getD}
+use Rattle.common.specs.Kit.{ℕ, _+_, List, _∷_, _++_, getD, take, drop}
 use Rattle.region.specs.declared.HeapMemoryRegion.{HeapMemoryRegion}
 
 abbrev pub packed : HeapMemoryRegion → List ℕ

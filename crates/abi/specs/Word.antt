@@ -1,6 +1,6 @@
 -- Page words as numbers: the type's number as document 01's table has it, then order, item size or count, then the next page; 0 where the type
 -- has no such field. 14 stands for the plain "no".
-use Prim.Native.Nat.{ℕ}
+use Rattle.common.specs.Kit.{ℕ}
 use Rattle.words.specs.declared.word.PageInfo.{PageInfo}
 use Rattle.words.specs.declared.word.PageInfo.the-variants.{Free, Allocated, Slab, Compound, File, Reserved}
 use Rattle.words.specs.declared.word.Decoded.{Decoded}

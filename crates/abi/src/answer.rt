@@ -2,14 +2,14 @@
 ghost use mathlib.Core.Path.{_≡_};
 ghost use mathlib.Core.List.{[]};
 ghost use lib.ListN.{getD};
-ghost use Rattle.calls.specs.Told.{no, refusal, done, grant, count, layout};
+ghost use Rattle.sound_calls.specs.Told.{no, refusal, done, grant, count, layout};
 ghost use Rattle.abi.specs.Answer.{answerOf};
-use calls::AllocError;
-use calls::Count;
-use calls::Done;
-use calls::Grant;
-use calls::Layout;
-use calls::refusal_number;
+use sound_calls::AllocError;
+use sound_calls::Count;
+use sound_calls::Done;
+use sound_calls::Grant;
+use sound_calls::Layout;
+use sound_calls::refusal_number;
 
 // What a call answers: 0 or the number of its refusal, and what it carries, zeros where it carries less.
 #[repr(C)]

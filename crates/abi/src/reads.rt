@@ -8,10 +8,10 @@ use crate::answer::of_layout;
 use crate::record::RECORD;
 use crate::record::load;
 use crate::record::put_six;
-use calls::Done;
 use heap::reads::audit;
 use heap::reads::layout_from_ptr;
 use heap::reads::memory_info;
+use sound_calls::Done;
 use words::place::VirtAddr;
 
 // The length of a report: blocks and free blocks of each order.

@@ -2,7 +2,7 @@
 ghost use mathlib.Core.Path.{_≡_};
 ghost use mathlib.Core.List.{[]};
 ghost use lib.ListN.{length};
-ghost use Rattle.calls.specs.Told.{done, grant, count};
+ghost use Rattle.sound_calls.specs.Told.{done, grant, count};
 ghost use Rattle.abi.specs.Answer.{answerOf};
 ghost use Rattle.abi.specs.Record.{packed};
 ghost use Rattle.abi.specs.Promise.{left, emptyLeft, setUpLeft, allocateLeft, fileLeft, slabLeft, freeLeft, getLeft, putLeft};
@@ -14,11 +14,11 @@ use crate::answer::of_grant;
 use crate::record::RECORD;
 use crate::record::load;
 use crate::record::store;
-use calls::Counted;
-use calls::Done;
-use calls::Finished;
-use calls::Granted;
 use heap::start::empty_region;
+use sound_calls::Counted;
+use sound_calls::Done;
+use sound_calls::Finished;
+use sound_calls::Granted;
 use words::place::VirtAddr;
 
 // Sets a region up on the lent words.

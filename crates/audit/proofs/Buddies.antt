@@ -1,16 +1,9 @@
 -- Buddies: of two free buddies one is the lower half of a block one order up, so it is enough to look at lower halves; and the upper one stands
--- where the lower one ends, so a walk from block to block meets them one after the other. Assumes nothing.
-use Prim.Native.Nat.{ℕ, _+_, _-_, _*_, _/_, _%_, _^_, _≤_, _<_}
-use native.Mathlib.Omega.{arith}
-use native.Mathlib.Nat.{le-refl, mul-mod-left, mul-div-cancel, two-pow-succ}
-use native.Mathlib.Numerals.{add-one}
-use native.Mathlib.Decide.{ℕ-discrete, decLt}
-use mathlib.Core.Path.{_≡_, refl, sym, ap, subst, _∙_}
-use mathlib.Core.Bool.{false, not, and-false, and-comm}
-use mathlib.Core.List.{List}
-use lib.Dec.{eqb}
-use lib.Pow.{pow-pos, split, mod-pow-add}
-use borrow.Author.Tests.{eq-eqb, ne-eqb, le-leb, lt-ltb, le-ltb}
+-- where the lower one ends, so a walk from block to block meets them one after the other.
+use Rattle.common.specs.Kit.{ℕ, _+_, _-_, _*_, _/_, _%_, _^_, _≤_, _<_, _≡_, refl, sym, ap, _∙_, subst, false, not, and-false, List, eqb, pow-pos, le-refl, add-one, ℕ-discrete, decLt, arith, eq-eqb, ne-eqb, lt-ltb, le-ltb, le-leb}
+use native.Mathlib.Nat.{mul-mod-left, mul-div-cancel, two-pow-succ}
+use mathlib.Core.Bool.{and-comm}
+use lib.Pow.{split, mod-pow-add}
 use Rattle.pages.specs.Said.{said}
 use Rattle.region.specs.Pages.{freeOrder, Tiled, FreeBlock, buddyOf, NoBuddies}
 use Rattle.audit.specs.Decides.{Decides}

@@ -1,10 +1,5 @@
 -- Each state of the table breaks the lines that it is said to break, and the audit answers so, by computation. These are results.
--- Assumes nothing.
-use Prim.Native.Nat.{ℕ, _≤_}
-use native.Mathlib.Omega.{arith}
-use native.Mathlib.Decide.{decLt}
-use mathlib.Core.Path.{_≡_, refl}
-use mathlib.Core.List.{List, map}
+use Rattle.common.specs.Kit.{ℕ, _≤_, _≡_, refl, List, map, decLt, arith}
 use Rattle.words.specs.Word.{row, decodeOf, memOf}
 use Rattle.pages.specs.Info.{allocatedInfo, reservedInfo}
 use Rattle.region.specs.Layout.{maxPages, endOf}

@@ -1,11 +1,5 @@
--- Tests that decide: comparisons, both of two, not, and a test at a run of numbers. Nothing here is about a heap. Assumes nothing.
-use Prim.Native.Nat.{ℕ, zero, suc, _+_, _≤_, _<_}
-use native.Mathlib.Omega.{arith}
-use native.Mathlib.Decide.{ℕ-discrete}
-use mathlib.Core.Path.{_≡_, refl}
-use mathlib.Core.Bool.{Bool, true, false, not, _&&_, false≢true}
-use lib.Dec.{eqb, leb, ltb}
-use borrow.Author.Tests.{eqb-true, leb-true, ltb-true, eq-eqb, le-leb, lt-ltb}
+-- Tests that decide: comparisons, both of two, not, and a test at a run of numbers. Nothing here is about a heap.
+use Rattle.common.specs.Kit.{ℕ, zero, suc, _+_, _≤_, _<_, _≡_, refl, Bool, true, false, not, _&&_, false≢true, eqb, leb, ltb, ℕ-discrete, arith, eq-eqb, lt-ltb, le-leb, eqb-true, ltb-true, leb-true}
 use Rattle.audit.specs.Decides.{Decides}
 use Rattle.audit.specs.Check.{all}
 

@@ -1,11 +1,6 @@
 -- What the walk found decides the lines on the managed pages: by its answer, and if that is good, by the counts and by where the lists have
--- come to. Assumes nothing.
-use Prim.Native.Nat.{ℕ, _-_}
-use mathlib.Core.Path.{_≡_, sym, ap, _∙_}
-use mathlib.Core.Bool.{Bool, true, false, _&&_, and-true, and-assoc}
-use mathlib.Core.List.{List}
-use lib.Dec.{eqb}
-use lib.ListN.{getD, replicate, getD-replicate}
+-- come to.
+use Rattle.common.specs.Kit.{ℕ, _-_, _≡_, sym, ap, _∙_, Bool, true, false, _&&_, and-true, and-assoc, List, eqb, getD, replicate, getD-replicate}
 use Rattle.words.specs.Word.{noPage}
 use Rattle.region.specs.Layout.{endOf}
 use Rattle.region.specs.Pages.{blocks, frees}

@@ -1,13 +1,8 @@
--- Pages of which none is managed are sound exactly up to the limit on pages, whatever that is. This is a result. Assumes nothing.
-use Prim.Native.Nat.{ℕ, _+_, _-_, _*_, _^_, _≤_, _<_}
-use native.Mathlib.Omega.{arith}
-use mathlib.Core.Path.{_≡_, refl, sym, ap, _∙_}
-use mathlib.Core.List.{List, []}
-use lib.Dec.{leb}
-use lib.ListN.{length, getD, replicate, length-append, length-replicate, getD-replicate, List·getD-append}
+-- Pages of which none is managed are sound exactly up to the limit on pages, whatever that is. This is a result.
+use Rattle.common.specs.Kit.{ℕ, _+_, _-_, _*_, _^_, _≤_, _<_, _≡_, refl, sym, ap, _∙_, List, [], leb, length, getD, replicate, getD-replicate, arith, le-leb, leb-true}
+use lib.ListN.{length-append, length-replicate, List·getD-append}
 use lib.Seq.{getD-append-add}
-use borrow.Author.Tests.{leb-true, le-leb}
-use Rattle.ground.proofs.Tests.{by-test}
+use Rattle.common.proofs.Tests.{by-test}
 use Rattle.words.specs.Word.{noPage, row, decodeOf, memOf}
 use Rattle.pages.specs.Info.{allocatedInfo, reservedInfo}
 use Rattle.pages.specs.Said.{said}

@@ -1,11 +1,5 @@
--- The pages of a region in its limits are few; and the six lines on its numbers, as the code asks them. Assumes nothing.
-use Prim.Native.Nat.{ℕ, _≤_}
-use native.Mathlib.Omega.{arith}
-use mathlib.Core.Path.{_≡_, sym}
-use mathlib.Core.Bool.{true, _&&_, and-assoc}
-use mathlib.Core.List.{List}
-use lib.Dec.{leb}
-use lib.ListN.{length}
+-- The pages of a region in its limits are few; and the six lines on its numbers, as the code asks them.
+use Rattle.common.specs.Kit.{ℕ, _≤_, _≡_, sym, true, _&&_, and-assoc, List, leb, length, arith}
 use Rattle.region.specs.Layout.{maxPages, allocPages, Limits}
 use Rattle.region.specs.State.{room}
 use Rattle.region.proofs.Limits.{pages-small}

@@ -1,15 +1,8 @@
 -- Free lists: a linked list that ends holds no page twice, so it holds each free block exactly when it has as many pages as there are free
--- blocks. Assumes nothing.
-use Prim.Native.Nat.{ℕ, zero, suc, _+_, _-_, _≤_, _<_}
-use native.Mathlib.Omega.{arith}
-use native.Mathlib.Decide.{ℕ-discrete, decLt}
-use mathlib.Core.Path.{_≡_, refl, sym, ap, subst, _∙_}
-use mathlib.Core.Bool.{true, and-eq-true-iff}
-use mathlib.Core.List.{List, [], _∷_}
-use lib.Dec.{eqb}
-use lib.ListN.{length}
-use borrow.Author.Tests.{eqb-true, eq-eqb}
-use Rattle.ground.specs.Numbers.{one}
+-- blocks.
+use Rattle.common.specs.Kit.{ℕ, zero, suc, _+_, _-_, _≤_, _<_, _≡_, refl, sym, ap, _∙_, subst, true, List, [], _∷_, eqb, length, ℕ-discrete, decLt, arith, eq-eqb, eqb-true}
+use mathlib.Core.Bool.{and-eq-true-iff}
+use Rattle.common.specs.Numbers.{one}
 use Rattle.words.specs.Word.{noPage}
 use Rattle.pages.specs.Said.{said, nextIn}
 use Rattle.region.specs.Pages.{freeOrder, FreeBlock, Linked, occurs, FreeList, frees, sum}

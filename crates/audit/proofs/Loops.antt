@@ -1,15 +1,6 @@
 -- The tests of `Check` as loops go through them: b is the answer, and what is left has it too, until a test fails or nothing is left.
--- Assumes nothing.
-use Prim.Native.Nat.{ℕ, zero, suc, _+_, _-_, _^_, _≤_, _<_}
-use native.Mathlib.Omega.{arith}
-use native.Mathlib.Decide.{ℕ-discrete}
-use mathlib.Core.Path.{_≡_, refl, sym, ap, _∙_}
-use mathlib.Core.Bool.{Bool, true, false, not, _&&_, and-true, and-assoc}
-use mathlib.Core.List.{List}
-use lib.Dec.{eqb}
+use Rattle.common.specs.Kit.{ℕ, zero, suc, _+_, _-_, _^_, _≤_, _<_, _≡_, refl, sym, ap, _∙_, Bool, true, false, not, _&&_, and-true, and-assoc, List, eqb, pow-pos, ℕ-discrete, arith, eq-eqb, ne-eqb, le-leb, lt-leb, not-true, not-false}
 use lib.Bits.{bitOr, bitXor, xor-self, or-add-and, xor-add-and, and-le-l, and-le-r}
-use lib.Pow.{pow-pos}
-use borrow.Author.Tests.{eq-eqb, ne-eqb, le-leb, lt-leb, not-true, not-false}
 use Rattle.pages.specs.Said.{said}
 use Rattle.region.specs.Pages.{headOrder}
 use Rattle.audit.specs.Check.{all, blockAt, tiles}

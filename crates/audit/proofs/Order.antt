@@ -1,8 +1,6 @@
--- The lines of soundness in the order in which the code takes them: the lists last, after the walk. Assumes nothing.
-use Prim.Native.Nat.{ℕ}
-use mathlib.Core.Path.{_≡_, ap, _∙_}
-use mathlib.Core.Bool.{Bool, true, _&&_, and-true, and-assoc, and-comm}
-use mathlib.Core.List.{List}
+-- The lines of soundness in the order in which the code takes them: the lists last, after the walk.
+use Rattle.common.specs.Kit.{ℕ, _≡_, ap, _∙_, Bool, true, _&&_, and-true, and-assoc, List}
+use mathlib.Core.Bool.{and-comm}
 use Rattle.region.specs.declared.HeapMemoryRegion.{HeapMemoryRegion}
 use Rattle.audit.specs.Check.{keeps, every, numbers, soundB, boot, metadata, tiled, lists, buddies, totals, free}
 use Rattle.audit.specs.Survey.{edges, inner}

@@ -1,11 +1,6 @@
 -- A word is the one of an Allocated, Compound or Reserved page exactly when it says that page, since these rows have no free bits: so pages
--- that all have one word all say one thing. Assumes nothing.
-use Prim.Native.Nat.{ℕ, _-_}
-use native.Mathlib.Omega.{arith}
-use mathlib.Core.Path.{_≡_, sym, ap, subst, _∙_}
-use mathlib.Core.Bool.{true}
-use mathlib.Core.List.{List}
-use lib.ListN.{getD}
+-- that all have one word all say one thing.
+use Rattle.common.specs.Kit.{ℕ, _-_, _≡_, sym, ap, _∙_, subst, true, List, getD, arith}
 use Rattle.words.specs.Word.{decodeOf, inTable, wordOf, memOf}
 use Rattle.words.specs.declared.word.PageInfo.{PageInfo}
 use Rattle.words.specs.declared.word.PageInfo.the-variants.{Free, Allocated, Slab, Compound, File, Reserved}

@@ -1,10 +1,5 @@
--- `soundB` decides `Sound`: each line's test decides its field, and may rest on the lines before it. This is a result. Assumes nothing.
-use Prim.Native.Nat.{ℕ, _+_, _-_, _*_, _%_, _^_}
-use native.Mathlib.Omega.{arith}
-use native.Mathlib.Nat.{le-refl}
-use mathlib.Core.Path.{refl}
-use mathlib.Core.List.{List}
-use lib.ListN.{length, getD}
+-- `soundB` decides `Sound`: each line's test decides its field, and may rest on the lines before it. This is a result.
+use Rattle.common.specs.Kit.{ℕ, _+_, _-_, _*_, _%_, _^_, refl, List, length, getD, le-refl, arith}
 use Rattle.pages.specs.Info.{allocatedInfo, reservedInfo}
 use Rattle.region.specs.Layout.{endOf, maxPages}
 use Rattle.region.specs.Pages.{blocks, frees}

@@ -1,15 +1,7 @@
 -- Sums over a run of pages: one page more, sums of functions that lie one below the other, and a list's length as the sum of how often each
--- page stands in it. Assumes nothing.
-use Prim.Native.Nat.{ℕ, zero, suc, _+_, _-_, _≤_, _<_}
-use native.Mathlib.Omega.{arith}
-use native.Mathlib.Decide.{decLt}
-use mathlib.Core.Path.{_≡_, refl, ap, _∙_}
-use mathlib.Core.Bool.{Bool, true, false}
-use mathlib.Core.List.{List, [], _∷_}
-use lib.Dec.{eqb}
-use lib.ListN.{length}
-use borrow.Author.Tests.{eq-eqb, ne-eqb}
-use Rattle.ground.specs.Numbers.{one}
+-- page stands in it.
+use Rattle.common.specs.Kit.{ℕ, zero, suc, _+_, _-_, _≤_, _<_, _≡_, refl, ap, _∙_, Bool, true, false, List, [], _∷_, eqb, length, decLt, arith, eq-eqb, ne-eqb}
+use Rattle.common.specs.Numbers.{one}
 use Rattle.region.specs.Pages.{sum, occurs}
 
 pub one-most : (b : Bool) → one b ≤ 1

@@ -1,14 +1,7 @@
 -- A tally of pages by order: it starts at nothing, a page more, with pages after it that have none, is one more at its order, and no count
--- passes the pages. Assumes nothing.
-use Prim.Native.Nat.{ℕ, _+_, _-_, _≤_, _<_}
-use native.Mathlib.Omega.{arith}
-use native.Mathlib.Decide.{ℕ-discrete, decLt}
-use mathlib.Core.Path.{_≡_, refl, sym, ap, _∙_}
-use mathlib.Core.List.{List}
-use lib.Dec.{eqb}
-use lib.ListN.{length, getD, replicate, getD-replicate, length-set, List·getD-eq-default}
-use lib.Seq.{getD-set-same, getD-set-other}
-use Rattle.ground.specs.Numbers.{one}
+-- passes the pages.
+use Rattle.common.specs.Kit.{ℕ, _+_, _-_, _≤_, _<_, _≡_, refl, sym, ap, _∙_, List, eqb, length, getD, replicate, length-set, getD-replicate, List·getD-eq-default, getD-set-same, getD-set-other, ℕ-discrete, decLt, arith}
+use Rattle.common.specs.Numbers.{one}
 use Rattle.region.specs.Pages.{sum}
 use Rattle.audit.specs.Check.{counts}
 use Rattle.audit.specs.Counts.{oneMore, Tally}

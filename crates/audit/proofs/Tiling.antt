@@ -1,15 +1,5 @@
 -- Tilings: a test that goes from block to block decides whether pages are tiled, since in a tiling a page that heads an order starts a block.
--- Assumes nothing.
-use Prim.Native.Nat.{ℕ, zero, suc, _+_, _-_, _%_, _^_, _≤_, _<_}
-use native.Mathlib.Omega.{arith}
-use native.Mathlib.Nat.{le-refl}
-use native.Mathlib.Decide.{ℕ-discrete, decLt}
-use mathlib.Core.Path.{_≡_, refl, sym, ap, subst, _∙_}
-use mathlib.Core.Bool.{Bool, _&&_, _||_}
-use mathlib.Core.List.{List}
-use lib.Dec.{leb}
-use lib.Pow.{pow-pos}
-use borrow.Author.Tests.{lt-ltb, le-leb, lt-leb}
+use Rattle.common.specs.Kit.{ℕ, zero, suc, _+_, _-_, _%_, _^_, _≤_, _<_, _≡_, refl, sym, ap, _∙_, subst, Bool, _&&_, _||_, List, leb, pow-pos, le-refl, ℕ-discrete, decLt, arith, lt-ltb, le-leb, lt-leb}
 use Rattle.words.specs.declared.word.PageInfo.the-variants.{Free, Allocated, Slab, Compound, File, Reserved}
 use Rattle.words.specs.declared.word.Decoded.{Decoded}
 use Rattle.words.specs.declared.word.Decoded.the-variants.{Info}

@@ -1,18 +1,8 @@
 -- The walk from block to block: what it keeps at the end of each block. The pages of a block after its first head nothing, so they add to no
 -- count and are no half; of two free buddies the upper one is met right after the lower one; a list goes one page on with each of its free
--- blocks. Assumes nothing.
-use Prim.Native.Nat.{ℕ, zero, suc, _+_, _-_, _%_, _^_, _≤_, _<_}
-use native.Mathlib.Omega.{arith}
-use native.Mathlib.Nat.{le-refl}
-use native.Mathlib.Decide.{ℕ-discrete, decLt}
-use mathlib.Core.Path.{_≡_, refl, sym, ap, _∙_}
-use mathlib.Core.Bool.{Bool, true, false, not, _&&_, and-false, false≢true}
-use mathlib.Core.List.{List}
-use lib.ListN.{length, getD, replicate, getD-replicate, length-set}
-use lib.Seq.{getD-set-same, getD-set-other}
-use lib.Pow.{pow-pos}
-use borrow.Author.Tests.{ne-eqb}
-use Rattle.ground.proofs.Tests.{by-test}
+-- blocks.
+use Rattle.common.specs.Kit.{ℕ, zero, suc, _+_, _-_, _%_, _^_, _≤_, _<_, _≡_, refl, sym, ap, _∙_, Bool, true, false, not, _&&_, and-false, false≢true, List, length, getD, replicate, length-set, getD-replicate, getD-set-same, getD-set-other, pow-pos, le-refl, ℕ-discrete, decLt, arith, ne-eqb}
+use Rattle.common.proofs.Tests.{by-test}
 use Rattle.words.specs.Word.{noPage}
 use Rattle.pages.specs.Said.{said}
 use Rattle.region.specs.Pages.{noOrder, headOrder, freeOrder, Block}

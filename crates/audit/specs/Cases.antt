@@ -1,8 +1,5 @@
 -- Cases of the audit: region R of document 01 after set-up, one page, a small state, and states that break one line each.
-use Prim.Native.Nat.{ℕ, _+_, _-_, _*_, _^_}
-use mathlib.Core.Bool.{Bool, true, false, cond}
-use mathlib.Core.List.{List, [], _∷_, _++_, map}
-use lib.ListN.{take, replicate, set}
+use Rattle.common.specs.Kit.{ℕ, _+_, _-_, _*_, _^_, Bool, true, false, cond, List, [], _∷_, _++_, map, set, take, replicate}
 use Rattle.words.specs.Word.{noPage, memOf}
 use Rattle.words.specs.declared.word.PageInfo.{PageInfo}
 use Rattle.pages.specs.Info.{freeInfo, allocatedInfo, slabInfo, compoundInfo, fileInfo, reservedInfo}

@@ -1,10 +1,6 @@
 -- The executable form of soundness: a test for each line of document 01, of any record and any words. It is total and computes; what
 -- a `let` holds is computed only where it is asked for. That it decides `Sound` is the law `sound-decides`.
-use Prim.Native.Nat.{ℕ, zero, suc, _+_, _*_, _%_, _^_, _-_}
-use mathlib.Core.Bool.{Bool, true, not, _&&_, _||_}
-use mathlib.Core.List.{List, [], _∷_}
-use lib.Dec.{ltb, leb, eqb}
-use lib.ListN.{length, getD}
+use Rattle.common.specs.Kit.{ℕ, zero, suc, _+_, _-_, _*_, _%_, _^_, Bool, true, not, _&&_, _||_, List, [], _∷_, eqb, leb, ltb, length, getD}
 use Rattle.words.specs.Word.{noPage, memOf}
 use Rattle.words.specs.declared.word.PageInfo.{PageInfo}
 use Rattle.pages.specs.Info.{allocatedInfo, compoundInfo, reservedInfo}

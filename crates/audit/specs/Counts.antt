@@ -1,10 +1,5 @@
 -- What the functions ask for, and the counts that they answer.
-use Prim.Native.Nat.{ℕ, _+_, _-_, _≤_, _<_}
-use mathlib.Core.Path.{_≡_}
-use mathlib.Core.Bool.{cond}
-use mathlib.Core.List.{List}
-use lib.Dec.{eqb}
-use lib.ListN.{length, getD, set}
+use Rattle.common.specs.Kit.{ℕ, _+_, _-_, _≤_, _<_, _≡_, cond, List, eqb, length, getD, set}
 use Rattle.pages.specs.Said.{said}
 use Rattle.region.specs.Layout.{Limits}
 use Rattle.region.specs.Pages.{headOrder, freeOrder, sum}

@@ -1,6 +1,5 @@
 -- When a test decides a question.
-use mathlib.Core.Path.{_≡_}
-use mathlib.Core.Bool.{Bool, true}
+use Rattle.common.specs.Kit.{_≡_, Bool, true}
 
 -- b is the answer to P, both ways
 pub record Decides (b : Bool) (P : Type 0) : Type 0 where

@@ -1,10 +1,5 @@
 -- What the walk from block to block asks at each block, what it answers, and which lines that decides.
-use Prim.Native.Nat.{ℕ, _+_, _-_, _%_, _^_, _≤_, _<_}
-use mathlib.Core.Path.{_≡_}
-use mathlib.Core.Bool.{Bool, true, not, cond, _&&_}
-use mathlib.Core.List.{List, [], _∷_}
-use lib.Dec.{ltb, eqb}
-use lib.ListN.{length, getD, set}
+use Rattle.common.specs.Kit.{ℕ, _+_, _-_, _%_, _^_, _≤_, _<_, _≡_, Bool, true, cond, not, _&&_, List, [], _∷_, eqb, ltb, length, getD, set}
 use Rattle.words.specs.Word.{noPage}
 use Rattle.pages.specs.Said.{said, nextIn}
 use Rattle.region.specs.State.{room}

@@ -1,17 +1,8 @@
 -- A new run becomes a block out, and the managed pages grow by it: the step of set-up, and of any later hand-over. It keeps soundness.
--- Assumes nothing.
-use mathlib.Core.Path.{_≡_, sym, _∙_}
-use mathlib.Core.Logic.{_≢_, by-cases}
-use mathlib.Core.Bool.{Bool, true, false}
-use Prim.Native.Nat.{ℕ, _+_, _≤_, _<_}
-use native.Mathlib.Nat.{le-refl}
-use native.Mathlib.Omega.{arith}
-use native.Mathlib.Decide.{ℕ-discrete}
-use lib.Dec.{T}
-use borrow.Author.Tests.{eq-eqb, ne-eqb}
-use Rattle.ground.specs.Numbers.{count}
-use Rattle.ground.proofs.Lists.{update-same, update-other}
-use Rattle.ground.proofs.Counts.{count-same, count-at}
+use Rattle.common.specs.Kit.{ℕ, _+_, _≤_, _<_, _≡_, sym, _∙_, _≢_, by-cases, Bool, true, false, T, le-refl, ℕ-discrete, arith, eq-eqb, ne-eqb}
+use Rattle.common.specs.Numbers.{count}
+use Rattle.common.proofs.Lists.{update-same, update-other}
+use Rattle.common.proofs.Counts.{count-same, count-at}
 use Rattle.buddy.specs.Runs.{cell, first}
 use Rattle.buddy.specs.Heap.{used, Tag, tag, heads, Heap, Core, SoundHeap}
 use Rattle.buddy.specs.Steps.{paint, withRun, add}

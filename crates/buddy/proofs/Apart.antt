@@ -1,14 +1,7 @@
 -- The rule on buddies under the single steps: a step that frees nothing keeps it, and so does the push of a run whose buddy is not free.
--- With the cores of `Steps` that makes the steps keep soundness. Assumes nothing.
-use mathlib.Core.Path.{_≡_, refl, sym, _∙_}
-use mathlib.Core.Logic.{_≢_, by-cases}
-use mathlib.Core.Bool.{Bool, true, false, false≢true, _&&_}
-use Prim.Native.Nat.{ℕ, suc, _≤_, _<_}
-use native.Mathlib.Omega.{arith}
-use native.Mathlib.Decide.{ℕ-discrete}
-use lib.Dec.{T, eqb, eqb→eq}
-use borrow.Author.Tests.{eq-eqb}
-use Rattle.ground.proofs.Tests.{T-true, T-and}
+-- With the cores of `Steps` that makes the steps keep soundness.
+use Rattle.common.specs.Kit.{ℕ, suc, _≤_, _<_, _≡_, refl, sym, _∙_, _≢_, by-cases, Bool, true, false, _&&_, false≢true, T, eqb, eqb→eq, ℕ-discrete, arith, eq-eqb}
+use Rattle.common.proofs.Tests.{T-true, T-and}
 use Rattle.buddy.specs.Runs.{cell, first, buddy}
 use Rattle.buddy.specs.Heap.{free, used, Tag, tag, NoBuddies, Heap, Core, SoundHeap}
 use Rattle.buddy.specs.Steps.{paint, push, take, halve, merge}

@@ -1,15 +1,8 @@
--- Blocks are counted at their heads: what painting a run, a split or a merge does to the number of blocks of each order. Assumes nothing.
-use mathlib.Core.Path.{_≡_, sym, _∙_}
-use mathlib.Core.Logic.{_≢_, by-cases}
-use mathlib.Core.Bool.{Bool, true, false}
-use Prim.Native.Nat.{ℕ, suc, _+_, _*_, _<_}
-use native.Mathlib.Omega.{arith}
-use native.Mathlib.Decide.{ℕ-discrete}
-use lib.Dec.{T, eqb, eqb→eq}
-use borrow.Author.Tests.{eq-eqb}
-use Rattle.ground.specs.Numbers.{one, count}
-use Rattle.ground.proofs.Tests.{T-true, T-false, T-and}
-use Rattle.ground.proofs.Counts.{count-same, count-at, count-two}
+-- Blocks are counted at their heads: what painting a run, a split or a merge does to the number of blocks of each order.
+use Rattle.common.specs.Kit.{ℕ, suc, _+_, _*_, _<_, _≡_, sym, _∙_, _≢_, by-cases, Bool, true, false, T, eqb, eqb→eq, ℕ-discrete, arith, eq-eqb}
+use Rattle.common.specs.Numbers.{one, count}
+use Rattle.common.proofs.Tests.{T-true, T-false, T-and}
+use Rattle.common.proofs.Counts.{count-same, count-at, count-two}
 use Rattle.buddy.specs.Runs.{cell, first, start, Head}
 use Rattle.buddy.specs.Heap.{Tag, heads}
 use Rattle.buddy.specs.Steps.{paint}

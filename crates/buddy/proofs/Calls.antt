@@ -1,13 +1,6 @@
--- The ways through the calls, on a sound heap: a call is refused and changes nothing, or it grants, frees or recounts. Assumes nothing.
-use mathlib.Core.Path.{_≡_, refl}
-use mathlib.Core.Logic.{_≢_, by-cases}
-use mathlib.Core.Bool.{Bool}
-use Prim.Native.Nat.{ℕ, zero, suc, _+_, _-_, _≤_, _<_}
-use native.Mathlib.Omega.{arith}
-use native.Mathlib.Decide.{decLe}
-use lib.Dec.{T, leb}
-use borrow.Author.Tests.{leb-true}
-use Rattle.ground.proofs.Tests.{by-test, T-true}
+-- The ways through the calls, on a sound heap: a call is refused and changes nothing, or it grants, frees or recounts.
+use Rattle.common.specs.Kit.{ℕ, zero, suc, _+_, _-_, _≤_, _<_, _≡_, refl, _≢_, by-cases, Bool, T, leb, decLe, arith, leb-true}
+use Rattle.common.proofs.Tests.{by-test, T-true}
 use Rattle.buddy.specs.Runs.{cell, first, Head}
 use Rattle.buddy.specs.Heap.{Kind, free, used, slab, file, Fits, Heap, SoundHeap}
 use Rattle.buddy.specs.Rules.{Grant, refused, granted, allocate, freeBlock, outAt, freePage, grantAs, filePage, slabPage, recount, putTo}

@@ -1,9 +1,6 @@
 -- A grant and the return of its block at once leave the heap exactly as it was, lists included: the free of any block granted, or the put of
--- a file page. Assumes nothing.
-use mathlib.Core.Path.{_≡_, refl, ap, _∙_}
-use mathlib.Core.Bool.{Bool}
-use Prim.Native.Nat.{ℕ, _<_}
-use lib.Dec.{T}
+-- a file page.
+use Rattle.common.specs.Kit.{ℕ, _<_, _≡_, refl, ap, _∙_, Bool, T}
 use Rattle.buddy.specs.Heap.{Kind, file, Heap, SoundHeap}
 use Rattle.buddy.specs.Rules.{freePage, putTo}
 use Rattle.buddy.specs.History.{Call, askFile, give, put, done, page, counted, Outcome, outcome, call}

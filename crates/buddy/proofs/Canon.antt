@@ -1,12 +1,6 @@
 -- The free blocks of a sound heap are fixed by which managed pages are free: the block of a free page is the largest run around it that is
--- free all over. Assumes nothing.
-use mathlib.Core.Path.{_≡_, sym, _∙_}
-use mathlib.Core.Logic.{_↔_}
-use mathlib.Core.Bool.{Bool}
-use mathlib.Core.List.{List·Memᴰ}
-use Prim.Native.Nat.{ℕ, _≤_}
-use native.Mathlib.Omega.{arith}
-use lib.Dec.{T}
+-- free all over.
+use Rattle.common.specs.Kit.{ℕ, _≤_, _≡_, sym, _∙_, _↔_, Bool, List·Memᴰ, T, arith}
 use Rattle.buddy.specs.Runs.{cell}
 use Rattle.buddy.specs.Heap.{free, Tag, Tiled, NoBuddies, Heap, SoundHeap}
 use Rattle.buddy.proofs.RunLaws.{cell-coarse}

@@ -1,10 +1,7 @@
 -- The cases of document 01 that a model can tell, by computation: answers in turn, lists, counts and the record. These are results.
--- With the halves of a split linked the other way round all of demand 3 would still hold; this would not. Assumes nothing.
-use mathlib.Core.Path.{_≡_, refl}
-use mathlib.Core.Bool.{Bool}
-use mathlib.Core.List.{List, [], _∷_, map}
-use Prim.Native.Nat.{ℕ, zero, suc, _*_}
-use Rattle.ground.specs.Numbers.{update, remove}
+-- With the halves of a split linked the other way round all of demand 3 would still hold; this would not.
+use Rattle.common.specs.Kit.{ℕ, zero, suc, _*_, _≡_, refl, Bool, List, [], _∷_, map}
+use Rattle.common.specs.Numbers.{update, remove}
 use Rattle.buddy.specs.Runs.{cell, first, buddy}
 use Rattle.buddy.specs.Steps.{paint, push, take, halve, split, merge, label, withRun, add}
 use Rattle.buddy.specs.Rules.{lowest, splitHead, refill, grantHead, grantFrom, allocate, freeAt, freeBlock, outAt, freePage, grantAs, filePage, slabPage, recount, putTo, empty, grow, growMany, setUpFrom, setUp, span}

@@ -1,13 +1,8 @@
 -- Clean heaps: they say nothing of pages that are not managed, and of orders above 5, so that what is shown of a heap fixes it.
--- No step reaches above order 5, and none changes the tag of a page that is not managed. Assumes nothing.
-use mathlib.Core.Path.{_≡_, refl, _∙_}
-use mathlib.Core.Logic.{_≢_}
-use mathlib.Core.Bool.{Bool}
-use Prim.Native.Nat.{ℕ, zero, suc, _+_, _/_, _≤_, _<_}
-use native.Mathlib.Omega.{arith}
-use lib.Dec.{T}
-use Rattle.ground.proofs.Tests.{by-test}
-use Rattle.ground.proofs.Lists.{update-other}
+-- No step reaches above order 5, and none changes the tag of a page that is not managed.
+use Rattle.common.specs.Kit.{ℕ, zero, suc, _+_, _/_, _≤_, _<_, _≡_, refl, _∙_, _≢_, Bool, T, arith}
+use Rattle.common.proofs.Tests.{by-test}
+use Rattle.common.proofs.Lists.{update-other}
 use Rattle.buddy.specs.Runs.{cell, first, buddy}
 use Rattle.buddy.specs.Heap.{used, tag, Heap, SoundHeap, Clean}
 use Rattle.buddy.specs.Steps.{push, take, halve, merge, withRun, add}

@@ -1,9 +1,5 @@
--- Every call keeps a heap clean: none reaches above order 5, and none changes the tag of a page that is not managed. Assumes nothing.
-use mathlib.Core.Path.{_≡_, refl, sym}
-use mathlib.Core.Bool.{Bool}
-use Prim.Native.Nat.{ℕ, _-_, _≤_, _<_}
-use native.Mathlib.Omega.{arith}
-use lib.Dec.{T}
+-- Every call keeps a heap clean: none reaches above order 5, and none changes the tag of a page that is not managed.
+use Rattle.common.specs.Kit.{ℕ, _-_, _≤_, _<_, _≡_, refl, sym, Bool, T, arith}
 use Rattle.buddy.specs.Runs.{cell}
 use Rattle.buddy.specs.Heap.{Kind, Heap, SoundHeap, Clean}
 use Rattle.buddy.specs.Steps.{label}

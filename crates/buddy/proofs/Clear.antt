@@ -1,13 +1,6 @@
 -- Runs that are free all over. In a sound heap such a run holds a page of a free block at least as large, since two free halves of one order
--- would be buddies; so with the lists of its order and above empty there is none. Assumes nothing.
-use mathlib.Core.Path.{_≡_, refl, sym, _∙_}
-use mathlib.Core.Logic.{by-cases}
-use mathlib.Core.Bool.{Bool}
-use mathlib.Core.List.{[], List·Memᴰ, List·Memᴰ·not-nil}
-use Prim.Native.Nat.{ℕ, zero, suc, _+_, _*_, _≤_}
-use native.Mathlib.Omega.{arith}
-use native.Mathlib.Decide.{decLe}
-use lib.Dec.{T}
+-- would be buddies; so with the lists of its order and above empty there is none.
+use Rattle.common.specs.Kit.{ℕ, zero, suc, _+_, _*_, _≤_, _≡_, refl, sym, _∙_, by-cases, Bool, [], List·Memᴰ, List·Memᴰ·not-nil, T, decLe, arith}
 use Rattle.buddy.specs.Runs.{cell, start}
 use Rattle.buddy.specs.Heap.{Kind, free, used, slab, file, Tag, Fits, Tiled, FreeHead, NoBuddies, Heap, SoundHeap}
 use Rattle.buddy.proofs.RunLaws.{cell-zero, cell-low, cell-high, cell-start, head-start}

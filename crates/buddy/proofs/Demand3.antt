@@ -1,12 +1,6 @@
 -- The theorems: from a set-up on, at every moment of every history, demand 3 holds, returns are what they should be and the heap is sound.
--- All follow from the invariant of histories. Assumes nothing.
-use mathlib.Core.Path.{_≡_, refl, sym, _∙_}
-use mathlib.Core.Logic.{_≢_, inl, inr, by-cases}
-use mathlib.Core.Bool.{Bool}
-use mathlib.Core.List.{List, [], _∷_, List·Memᴰ·not-nil}
-use Prim.Native.Nat.{ℕ, suc, _≤_, _<_}
-use native.Mathlib.Omega.{arith}
-use lib.Dec.{T}
+-- All follow from the invariant of histories.
+use Rattle.common.specs.Kit.{ℕ, suc, _≤_, _<_, _≡_, refl, sym, _∙_, _≢_, inl, inr, by-cases, Bool, List, [], _∷_, List·Memᴰ·not-nil, T, arith}
 use Rattle.buddy.specs.Runs.{cell, first, start, Head, buddy}
 use Rattle.buddy.specs.Heap.{Kind, free, used, slab, file, Tag, Block, SoundHeap, Clean}
 use Rattle.buddy.specs.Rules.{setUp, span}

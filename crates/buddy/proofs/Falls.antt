@@ -1,15 +1,7 @@
 -- A new run is added and freed: its block goes ahead of its list, so the lists still fall if the run lies above the blocks there.
--- Assumes nothing.
-use mathlib.Core.Path.{_≡_, refl, sym, _∙_}
-use mathlib.Core.Logic.{by-cases}
-use mathlib.Core.Bool.{Bool}
-use mathlib.Core.List.{List·Memᴰ}
-use Prim.Native.Nat.{ℕ, _-_, _≤_, _<_}
-use native.Mathlib.Omega.{arith}
-use native.Mathlib.Decide.{ℕ-discrete, decLt}
-use lib.Dec.{T}
-use Rattle.ground.specs.Numbers.{Falling}
-use Rattle.ground.proofs.Lists.{falling-remove}
+use Rattle.common.specs.Kit.{ℕ, _-_, _≤_, _<_, _≡_, refl, sym, _∙_, by-cases, Bool, List·Memᴰ, T, ℕ-discrete, decLt, arith}
+use Rattle.common.specs.Numbers.{Falling}
+use Rattle.common.proofs.Lists.{falling-remove}
 use Rattle.buddy.specs.Runs.{cell, first, start}
 use Rattle.buddy.specs.Heap.{free, Tag, tag, Block, FreeHead, Heap, SoundHeap}
 use Rattle.buddy.specs.Steps.{withRun, add}

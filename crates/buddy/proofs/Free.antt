@@ -1,12 +1,6 @@
--- Rule 5 keeps soundness; it frees the block's pages and changes no other block that is out. Assumes nothing.
-use mathlib.Core.Path.{_≡_, sym, _∙_}
-use mathlib.Core.Logic.{_≢_, by-cases}
-use mathlib.Core.Bool.{Bool, true, false}
-use Prim.Native.Nat.{ℕ, zero, suc, _+_, _/_, _≤_, _<_}
-use native.Mathlib.Omega.{arith}
-use native.Mathlib.Decide.{ℕ-discrete}
-use lib.Dec.{T}
-use Rattle.ground.proofs.Tests.{by-test}
+-- Rule 5 keeps soundness; it frees the block's pages and changes no other block that is out.
+use Rattle.common.specs.Kit.{ℕ, zero, suc, _+_, _/_, _≤_, _<_, _≡_, sym, _∙_, _≢_, by-cases, Bool, true, false, T, ℕ-discrete, arith}
+use Rattle.common.proofs.Tests.{by-test}
 use Rattle.buddy.specs.Runs.{cell, first, buddy}
 use Rattle.buddy.specs.Heap.{free, used, tag, Heap, SoundHeap}
 use Rattle.buddy.specs.Steps.{push, take, merge}

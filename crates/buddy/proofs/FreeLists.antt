@@ -1,16 +1,8 @@
 -- Rule 5's exact effect: how far a freed block merges, and then every tag, every list and every count. It holds of every heap, sound or not.
--- Assumes nothing.
-use mathlib.Core.Path.{_≡_, refl, sym, ap, _∙_}
-use mathlib.Core.Logic.{_≢_, by-cases}
-use mathlib.Core.Bool.{Bool, cond}
-use mathlib.Core.List.{_∷_}
-use Prim.Native.Nat.{ℕ, zero, suc, _+_, _-_, _*_, _≤_, _<_}
-use native.Mathlib.Nat.{le-refl}
-use native.Mathlib.Omega.{arith}
-use native.Mathlib.Decide.{ℕ-discrete}
-use Rattle.ground.specs.Numbers.{remove, one}
-use Rattle.ground.proofs.Tests.{by-test, by-two}
-use Rattle.ground.proofs.Lists.{update-same, update-other}
+use Rattle.common.specs.Kit.{ℕ, zero, suc, _+_, _-_, _*_, _≤_, _<_, _≡_, refl, sym, ap, _∙_, _≢_, by-cases, Bool, cond, _∷_, le-refl, ℕ-discrete, arith}
+use Rattle.common.specs.Numbers.{remove, one}
+use Rattle.common.proofs.Tests.{by-test, by-two}
+use Rattle.common.proofs.Lists.{update-same, update-other}
 use Rattle.buddy.specs.Runs.{cell, first, start, buddy}
 use Rattle.buddy.specs.Heap.{free, tag, Heap}
 use Rattle.buddy.specs.Steps.{paint, push, take, merge}

@@ -1,14 +1,6 @@
 -- Rule 4 keeps soundness, grants a run that was free all over and leaves every other block out as it was; it refuses exactly when there is no
--- such run. Assumes nothing.
-use mathlib.Core.Path.{_≡_, refl, sym, ap, _∙_}
-use mathlib.Core.Logic.{_≢_, _↔_, by-cases}
-use mathlib.Core.Bool.{Bool}
-use mathlib.Core.List.{List, _∷_, List·Memᴰ·head}
-use Prim.Native.Nat.{ℕ, zero, suc, _+_, _*_, _≤_, _<_}
-use native.Mathlib.Nat.{suc-add}
-use native.Mathlib.Omega.{arith}
-use native.Mathlib.Decide.{ℕ-discrete}
-use lib.Dec.{T}
+-- such run.
+use Rattle.common.specs.Kit.{ℕ, zero, suc, _+_, _*_, _≤_, _<_, _≡_, refl, sym, ap, _∙_, _≢_, _↔_, by-cases, Bool, List, _∷_, List·Memᴰ·head, T, suc-add, ℕ-discrete, arith}
 use Rattle.buddy.specs.Runs.{cell, first, buddy}
 use Rattle.buddy.specs.Heap.{Kind, free, used, Tag, tag, FreeHead, Heap, SoundHeap}
 use Rattle.buddy.specs.Steps.{take, halve}

@@ -1,13 +1,7 @@
--- Rule 4's exact effect: from which list the block comes, and then every tag, every list and every count. Assumes nothing.
-use mathlib.Core.Path.{_≡_, refl, sym, ap, _∙_}
-use mathlib.Core.Logic.{_≢_, by-cases}
-use mathlib.Core.List.{List, [], _∷_}
-use Prim.Native.Nat.{ℕ, zero, suc, _+_, _-_, _*_, _≤_, _<_}
-use native.Mathlib.Nat.{zero-add, suc-add}
-use native.Mathlib.Omega.{arith}
-use native.Mathlib.Decide.{ℕ-discrete}
-use Rattle.ground.specs.Numbers.{one}
-use Rattle.ground.proofs.Lists.{update-same, update-other, remove-same}
+-- Rule 4's exact effect: from which list the block comes, and then every tag, every list and every count.
+use Rattle.common.specs.Kit.{ℕ, zero, suc, _+_, _-_, _*_, _≤_, _<_, _≡_, refl, sym, ap, _∙_, _≢_, by-cases, List, [], _∷_, zero-add, suc-add, ℕ-discrete, arith}
+use Rattle.common.specs.Numbers.{one}
+use Rattle.common.proofs.Lists.{update-same, update-other, remove-same}
 use Rattle.buddy.specs.Runs.{cell, first, Head, buddy}
 use Rattle.buddy.specs.Heap.{free, used, tag, Heap}
 use Rattle.buddy.specs.Steps.{push, take, halve}

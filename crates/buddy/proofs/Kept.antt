@@ -1,16 +1,7 @@
 -- The invariant of histories: what is out on the heap is what the record says, once, and as what it says. Every call keeps it.
--- Assumes nothing.
-use mathlib.Core.Path.{_≡_, refl, sym, _∙_}
-use mathlib.Core.Logic.{_≢_, _↔_, ⊎-elim, by-cases}
-use mathlib.Core.Bool.{Bool}
-use mathlib.Core.List.{List, [], _∷_, _++_, List·Memᴰ, List·Memᴰ·head, List·Memᴰ·tail, List·Memᴰ·cases-cons, List·Memᴰ·not-nil}
-use Prim.Native.Nat.{ℕ, suc, _+_, _≤_, _<_}
-use native.Mathlib.Omega.{arith}
-use native.Mathlib.Decide.{ℕ-discrete}
-use lib.Dec.{T}
-use borrow.Author.Tests.{eq-eqb, ne-eqb}
-use Rattle.ground.specs.Numbers.{Once}
-use Rattle.ground.proofs.Lists.{mem-of-remove, not-removed, mem-remove, once-remove}
+use Rattle.common.specs.Kit.{ℕ, suc, _+_, _≤_, _<_, _≡_, refl, sym, _∙_, _≢_, _↔_, ⊎-elim, by-cases, Bool, List, [], _∷_, _++_, List·Memᴰ, List·Memᴰ·head, List·Memᴰ·tail, List·Memᴰ·cases-cons, List·Memᴰ·not-nil, T, ℕ-discrete, arith, eq-eqb, ne-eqb}
+use Rattle.common.specs.Numbers.{Once}
+use Rattle.common.proofs.Lists.{mem-of-remove, not-removed, mem-remove, once-remove}
 use Rattle.buddy.specs.Runs.{cell, first}
 use Rattle.buddy.specs.Heap.{Kind, free, used, slab, file, Heap, SoundHeap}
 use Rattle.buddy.specs.Rules.{recount}

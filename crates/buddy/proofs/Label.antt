@@ -1,11 +1,6 @@
 -- A block out takes another kind that is not free: a slab or file page just granted, a file page's next count. Nothing else changes.
--- Assumes nothing.
-use mathlib.Core.Path.{_≡_, refl, _∙_}
-use mathlib.Core.Logic.{_≢_, _↔_, Iff·rfl, by-cases}
-use mathlib.Core.Bool.{Bool}
-use Prim.Native.Nat.{ℕ}
-use native.Mathlib.Nat.{le-refl}
-use native.Mathlib.Decide.{ℕ-discrete}
+use Rattle.common.specs.Kit.{ℕ, _≡_, refl, _∙_, _≢_, _↔_, by-cases, Bool, le-refl, ℕ-discrete}
+use mathlib.Core.Logic.{Iff·rfl}
 use Rattle.buddy.specs.Runs.{cell}
 use Rattle.buddy.specs.Heap.{Kind, free, tag, Fits, Heap, SoundHeap}
 use Rattle.buddy.specs.Steps.{label}

@@ -1,14 +1,6 @@
 -- The rules at single pages, on a sound heap: what may be freed and what its free does (rule 5), file pages and slab pages (rule 6).
--- Assumes nothing.
-use mathlib.Core.Path.{_≡_, refl, sym, _∙_}
-use mathlib.Core.Logic.{_≢_, _↔_, by-cases}
-use mathlib.Core.Bool.{Bool, true, false, cond, _&&_}
-use Prim.Native.Nat.{ℕ, _-_, _≤_, _<_}
-use native.Mathlib.Omega.{arith}
-use native.Mathlib.Decide.{ℕ-discrete}
-use lib.Dec.{T, eqb, eqb→eq}
-use borrow.Author.Tests.{eq-eqb}
-use Rattle.ground.proofs.Tests.{by-test, T-true, T-and}
+use Rattle.common.specs.Kit.{ℕ, _-_, _≤_, _<_, _≡_, refl, sym, _∙_, _≢_, _↔_, by-cases, Bool, true, false, cond, _&&_, T, eqb, eqb→eq, ℕ-discrete, arith, eq-eqb}
+use Rattle.common.proofs.Tests.{by-test, T-true, T-and}
 use Rattle.buddy.specs.Runs.{cell, start, Head}
 use Rattle.buddy.specs.Heap.{Kind, free, used, slab, file, Tag, tag, Fits, Block, Tiled, Heap, SoundHeap}
 use Rattle.buddy.specs.Steps.{label}

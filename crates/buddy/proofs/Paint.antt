@@ -1,12 +1,5 @@
--- Painting a run with one tag: every step paints one run that is made of blocks, so one law of tilings serves them all. Assumes nothing.
-use mathlib.Core.Path.{_≡_, refl, sym, _∙_}
-use mathlib.Core.Logic.{_≢_, by-cases}
-use mathlib.Core.Bool.{Bool}
-use Prim.Native.Nat.{ℕ, suc, _/_, _≤_}
-use native.Mathlib.Omega.{arith}
-use native.Mathlib.Decide.{ℕ-discrete}
-use lib.Dec.{T}
-use borrow.Author.Tests.{eq-eqb, ne-eqb}
+-- Painting a run with one tag: every step paints one run that is made of blocks, so one law of tilings serves them all.
+use Rattle.common.specs.Kit.{ℕ, suc, _/_, _≤_, _≡_, refl, sym, _∙_, _≢_, by-cases, Bool, T, ℕ-discrete, arith, eq-eqb, ne-eqb}
 use Rattle.buddy.specs.Runs.{cell, first, buddy}
 use Rattle.buddy.specs.Heap.{Kind, free, Tag, tag, Fits, Block, Tiled, FreeHead}
 use Rattle.buddy.specs.Steps.{paint}

@@ -1,13 +1,7 @@
 -- Rule 4 as one walk. Of the two halves on the list the lower one, its head, is taken off again at once, and to take off what was just put
--- on gives the heap back; so the lower half may as well stay in hand, and that is `down`. Assumes nothing.
-use mathlib.Core.Path.{_≡_, refl, sym, _∙_, fun-ext}
-use mathlib.Core.Logic.{_≢_, by-cases}
-use mathlib.Core.List.{List, [], _∷_}
-use Prim.Native.Nat.{ℕ, zero, suc, _+_, _-_, _*_, _≤_, _<_}
-use native.Mathlib.Nat.{zero-add, suc-add}
-use native.Mathlib.Omega.{arith}
-use native.Mathlib.Decide.{ℕ-discrete}
-use Rattle.ground.proofs.Lists.{update-same, update-other, remove-same}
+-- on gives the heap back; so the lower half may as well stay in hand, and that is `down`.
+use Rattle.common.specs.Kit.{ℕ, zero, suc, _+_, _-_, _*_, _≤_, _<_, _≡_, refl, sym, _∙_, fun-ext, _≢_, by-cases, List, [], _∷_, zero-add, suc-add, ℕ-discrete, arith}
+use Rattle.common.proofs.Lists.{update-same, update-other, remove-same}
 use Rattle.buddy.specs.Runs.{cell, first}
 use Rattle.buddy.specs.Heap.{free, used, tag, Heap}
 use Rattle.buddy.specs.Steps.{push, take, halve, split}

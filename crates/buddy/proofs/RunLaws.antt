@@ -1,13 +1,8 @@
 -- Laws of aligned runs and of buddies. All powers of two of the theory are in this file: above it a run is its order and its number.
--- Assumes nothing.
-use mathlib.Core.Path.{_≡_, sym, ap, _∙_}
-use mathlib.Core.Logic.{_≢_, by-cases}
-use Prim.Native.Nat.{ℕ, suc, _+_, _-_, _*_, _/_, _%_, _^_, _≤_, _<_}
-use native.Mathlib.Nat.{div-one, div-div-eq-div-mul, pow-suc, pow-succ', mul-assoc, mod-lt, div-mul-le-self}
-use native.Mathlib.Omega.{arith}
-use native.Mathlib.Decide.{ℕ-discrete, le-ind}
-use lib.Pow.{pow-pos, shl-shr, high, split}
-use borrow.Author.Tests.{eq-eqb, ne-eqb}
+use Rattle.common.specs.Kit.{ℕ, suc, _+_, _-_, _*_, _/_, _%_, _^_, _≤_, _<_, _≡_, sym, ap, _∙_, _≢_, by-cases, pow-pos, pow-suc, ℕ-discrete, arith, eq-eqb, ne-eqb}
+use native.Mathlib.Nat.{div-one, div-div-eq-div-mul, pow-succ', mul-assoc, mod-lt, div-mul-le-self}
+use native.Mathlib.Decide.{le-ind}
+use lib.Pow.{shl-shr, high, split}
 use Rattle.buddy.specs.Runs.{cell, first, start, Head, buddy}
 
 pub cell-zero : (p : ℕ) → cell 0 p ≡ p

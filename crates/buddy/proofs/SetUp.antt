@@ -1,18 +1,9 @@
 -- Rule 7: what set-up leaves is sound and clean; its managed pages are those from a up to e, all of them are free, and every list falls.
--- Assumes nothing.
-use mathlib.Core.Path.{_≡_, refl, sym, _∙_, fun-ext}
-use mathlib.Core.Logic.{by-cases}
-use mathlib.Core.Bool.{Bool, _||_, or-false, or-true, or-comm}
-use mathlib.Core.List.{List·Memᴰ·not-nil}
-use Prim.Native.Nat.{ℕ, zero, suc, _+_, _-_, _*_, _/_, _≤_, _<_}
-use native.Mathlib.Nat.{le-refl}
-use native.Mathlib.Omega.{arith}
-use native.Mathlib.Decide.{ℕ-discrete, decLt}
-use lib.Dec.{T}
-use borrow.Author.Tests.{lt-ltb, le-ltb, eq-eqb, ne-eqb}
-use Rattle.ground.specs.Numbers.{Falling}
-use Rattle.ground.proofs.Tests.{T-true}
-use Rattle.ground.proofs.Counts.{no-count}
+use Rattle.common.specs.Kit.{ℕ, zero, suc, _+_, _-_, _*_, _/_, _≤_, _<_, _≡_, refl, sym, _∙_, fun-ext, by-cases, Bool, _||_, List·Memᴰ·not-nil, T, le-refl, ℕ-discrete, decLt, arith, eq-eqb, ne-eqb, lt-ltb, le-ltb}
+use mathlib.Core.Bool.{or-false, or-true, or-comm}
+use Rattle.common.specs.Numbers.{Falling}
+use Rattle.common.proofs.Tests.{T-true}
+use Rattle.common.proofs.Counts.{no-count}
 use Rattle.buddy.specs.Runs.{cell, first, start}
 use Rattle.buddy.specs.Heap.{free, used, Tag, tag, SoundHeap, Clean}
 use Rattle.buddy.specs.Steps.{withRun, add}

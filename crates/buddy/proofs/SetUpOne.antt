@@ -1,14 +1,8 @@
--- What `SetUp` says of a state fixes it: all managed pages are free, so the blocks are the largest runs, and the lists fall. Assumes nothing.
-use mathlib.Core.Path.{_≡_, sym, ap, _∙_, fun-ext}
-use mathlib.Core.Logic.{_↔_, by-cases}
-use mathlib.Core.List.{List·Memᴰ}
-use Prim.Native.Nat.{ℕ, _≤_}
-use native.Mathlib.Omega.{arith}
-use native.Mathlib.Decide.{decLe}
-use lib.Dec.{T}
-use Rattle.ground.specs.Numbers.{count}
-use Rattle.ground.proofs.Tests.{by-test}
-use Rattle.ground.proofs.Lists.{falling-one}
+-- What `SetUp` says of a state fixes it: all managed pages are free, so the blocks are the largest runs, and the lists fall.
+use Rattle.common.specs.Kit.{ℕ, _≤_, _≡_, sym, ap, _∙_, fun-ext, _↔_, by-cases, List·Memᴰ, T, decLe, arith}
+use Rattle.common.specs.Numbers.{count}
+use Rattle.common.proofs.Tests.{by-test}
+use Rattle.common.proofs.Lists.{falling-one}
 use Rattle.buddy.specs.Heap.{free, heads}
 use Rattle.buddy.specs.Rules.{State, span}
 use Rattle.buddy.proofs.Canon.{canon, canon-lists}

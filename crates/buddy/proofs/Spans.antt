@@ -1,12 +1,8 @@
--- The pages from one up to another, as a test. Assumes nothing.
-use mathlib.Core.Path.{_≡_, _∙_}
-use mathlib.Core.Logic.{by-cases}
-use mathlib.Core.Bool.{true, false, _||_, or-false}
-use Prim.Native.Nat.{ℕ, _≤_, _<_}
-use native.Mathlib.Omega.{arith}
-use native.Mathlib.Decide.{decLt}
-use lib.Dec.{T, leb, ltb, leb→le, ltb→lt, le→leb, lt→ltb}
-use Rattle.ground.proofs.Tests.{T-false, T-true, T-and, and-T, bool-iff}
+-- The pages from one up to another, as a test.
+use Rattle.common.specs.Kit.{ℕ, _≤_, _<_, _≡_, _∙_, by-cases, true, false, _||_, T, leb, ltb, decLt, arith}
+use mathlib.Core.Bool.{or-false}
+use lib.Dec.{leb→le, ltb→lt, le→leb, lt→ltb}
+use Rattle.common.proofs.Tests.{T-false, T-true, T-and, and-T, bool-iff}
 use Rattle.buddy.specs.Rules.{span}
 
 pub T-span : (a e p : ℕ) → T (span a e p) → (a ≤ p) × (p < e)

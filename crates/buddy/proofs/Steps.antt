@@ -1,16 +1,8 @@
--- Every single step keeps the core of soundness: the tiling, the lists, the counts. Assumes nothing.
-use mathlib.Core.Path.{_≡_, refl, sym, _∙_}
-use mathlib.Core.Logic.{_≢_, ⊎-elim, by-cases}
-use mathlib.Core.Bool.{Bool}
-use mathlib.Core.List.{List, _∷_, List·Memᴰ·head, List·Memᴰ·tail, List·Memᴰ·cases-cons}
-use Prim.Native.Nat.{ℕ, suc, _≤_, _<_}
-use native.Mathlib.Nat.{le-refl}
-use native.Mathlib.Omega.{arith}
-use native.Mathlib.Decide.{ℕ-discrete}
-use lib.Dec.{T}
-use Rattle.ground.specs.Numbers.{remove}
-use Rattle.ground.proofs.Tests.{by-two}
-use Rattle.ground.proofs.Lists.{update-same, update-other, mem-of-remove, not-removed, mem-remove, once-remove}
+-- Every single step keeps the core of soundness: the tiling, the lists, the counts.
+use Rattle.common.specs.Kit.{ℕ, suc, _≤_, _<_, _≡_, refl, sym, _∙_, _≢_, ⊎-elim, by-cases, Bool, List, _∷_, List·Memᴰ·head, List·Memᴰ·tail, List·Memᴰ·cases-cons, T, le-refl, ℕ-discrete, arith}
+use Rattle.common.specs.Numbers.{remove}
+use Rattle.common.proofs.Tests.{by-two}
+use Rattle.common.proofs.Lists.{update-same, update-other, mem-of-remove, not-removed, mem-remove, once-remove}
 use Rattle.buddy.specs.Runs.{cell, first}
 use Rattle.buddy.specs.Heap.{free, used, Tag, tag, FreeHead, Listed, Heap, Core}
 use Rattle.buddy.specs.Steps.{paint, push, take, halve, merge}

@@ -1,9 +1,5 @@
--- Kinds and tags: a tag is its order and its kind, and a kind is free or it is not. Assumes nothing.
-use mathlib.Core.Path.{_≡_, refl, ap}
-use mathlib.Core.Logic.{_≢_}
-use Prim.Native.Nat.{ℕ}
-use native.Mathlib.Omega.{arith}
-use lib.Dec.{T}
+-- Kinds and tags: a tag is its order and its kind, and a kind is free or it is not.
+use Rattle.common.specs.Kit.{ℕ, _≡_, refl, ap, _≢_, T, arith}
 use Rattle.buddy.specs.Heap.{Kind, free, used, slab, file, Tag, tag}
 use Rattle.buddy.specs.Rules.{isFree}
 

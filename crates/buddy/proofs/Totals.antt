@@ -1,14 +1,8 @@
 -- The block totals add up to the managed pages, each count times its block's size. A page weighs the size of the block that it heads; page by
--- page, the weights so far are the managed pages so far and what is left of the block begun last. Assumes nothing.
-use mathlib.Core.Path.{_≡_, refl, sym, _∙_}
-use mathlib.Core.Logic.{_≢_, by-cases}
-use mathlib.Core.Bool.{Bool}
-use Prim.Native.Nat.{ℕ, zero, suc, _+_, _^_, _<_}
-use native.Mathlib.Omega.{arith}
-use native.Mathlib.Decide.{ℕ-discrete, decLt}
-use lib.Dec.{T}
-use Rattle.ground.specs.Numbers.{one, count}
-use Rattle.ground.proofs.Tests.{by-test, T-true}
+-- page, the weights so far are the managed pages so far and what is left of the block begun last.
+use Rattle.common.specs.Kit.{ℕ, zero, suc, _+_, _^_, _<_, _≡_, refl, sym, _∙_, _≢_, by-cases, Bool, T, ℕ-discrete, decLt, arith}
+use Rattle.common.specs.Numbers.{one, count}
+use Rattle.common.proofs.Tests.{by-test, T-true}
 use Rattle.buddy.specs.Runs.{cell, start, Head}
 use Rattle.buddy.specs.Heap.{Tag, Block, Tiled, heads, Heap, Core}
 use Rattle.buddy.specs.Demand.{pagesIn}

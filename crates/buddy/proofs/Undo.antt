@@ -1,16 +1,8 @@
 -- To free a block just granted undoes the grant, lists included: rule 5 merges back what rule 4 split, and puts the block back at the head of
--- the list that it was taken from. Assumes nothing.
-use mathlib.Core.Path.{_≡_, refl, sym, _∙_}
-use mathlib.Core.Logic.{by-cases}
-use mathlib.Core.Bool.{Bool, true, false}
-use mathlib.Core.List.{List, _∷_}
-use Prim.Native.Nat.{ℕ, zero, suc, _+_, _-_, _*_, _/_, _≤_, _<_}
-use native.Mathlib.Nat.{zero-add, suc-add}
-use native.Mathlib.Omega.{arith}
-use native.Mathlib.Decide.{ℕ-discrete}
-use lib.Dec.{T}
-use Rattle.ground.proofs.Tests.{by-test}
-use Rattle.ground.proofs.Lists.{update-same, update-other, remove-same}
+-- the list that it was taken from.
+use Rattle.common.specs.Kit.{ℕ, zero, suc, _+_, _-_, _*_, _/_, _≤_, _<_, _≡_, refl, sym, _∙_, by-cases, Bool, true, false, List, _∷_, T, zero-add, suc-add, ℕ-discrete, arith}
+use Rattle.common.proofs.Tests.{by-test}
+use Rattle.common.proofs.Lists.{update-same, update-other, remove-same}
 use Rattle.buddy.specs.Runs.{cell, first, Head, buddy}
 use Rattle.buddy.specs.Heap.{Kind, free, used, tag, FreeHead, Heap, Core, SoundHeap}
 use Rattle.buddy.specs.Steps.{push, take, halve, merge, label}

@@ -1,11 +1,6 @@
 -- What the customer asks for at every moment of every history (demand 3), and what a return is.
-use mathlib.Core.Path.{_≡_}
-use mathlib.Core.Logic.{_≢_, _↔_, _⊎_}
-use mathlib.Core.Bool.{Bool}
-use mathlib.Core.List.{List·Memᴰ}
-use Prim.Native.Nat.{ℕ, zero, suc, _+_, _*_, _^_, _≤_, _<_}
-use lib.Dec.{T}
-use Rattle.ground.specs.Numbers.{Once, count}
+use Rattle.common.specs.Kit.{ℕ, zero, suc, _+_, _*_, _^_, _≤_, _<_, _≡_, _≢_, _↔_, _⊎_, Bool, List·Memᴰ, T}
+use Rattle.common.specs.Numbers.{Once, count}
 use Rattle.buddy.specs.Runs.{cell, first, Head, buddy}
 use Rattle.buddy.specs.Heap.{Kind, free, used, slab, file}
 use Rattle.buddy.specs.Rules.{refused, allocate}

@@ -1,11 +1,7 @@
 -- The heap, and when it is sound. The managed pages are a set M, given by a test, and not an interval: pages may be added later.
 -- Each page carries the tag of the block that covers it, so a block is a run whose pages have one tag of that order.
-use mathlib.Core.Path.{_≡_}
-use mathlib.Core.Bool.{Bool, _&&_}
-use mathlib.Core.List.{List, [], List·Memᴰ}
-use Prim.Native.Nat.{ℕ, suc, _≤_, _<_}
-use lib.Dec.{T, eqb}
-use Rattle.ground.specs.Numbers.{Once, count}
+use Rattle.common.specs.Kit.{ℕ, suc, _≤_, _<_, _≡_, Bool, _&&_, List, [], List·Memᴰ, T, eqb}
+use Rattle.common.specs.Numbers.{Once, count}
 use Rattle.buddy.specs.Runs.{cell, start, Head}
 
 -- what a block is: free, or out as an ordinary block, as a slab page with its item size, or as a file page with its count

@@ -1,9 +1,6 @@
 -- Histories: calls one after the other, each on the heap that the last one left, and what is written down of them.
-use mathlib.Core.Bool.{Bool, cond}
-use mathlib.Core.List.{List, [], _∷_, _++_}
-use Prim.Native.Nat.{ℕ, _+_, _-_}
-use lib.Dec.{eqb, leb}
-use Rattle.ground.specs.Numbers.{remove}
+use Rattle.common.specs.Kit.{ℕ, _+_, _-_, Bool, cond, List, [], _∷_, _++_, eqb, leb}
+use Rattle.common.specs.Numbers.{remove}
 use Rattle.buddy.specs.Runs.{first}
 use Rattle.buddy.specs.Heap.{Kind, free, used, slab, file, Heap}
 use Rattle.buddy.specs.Rules.{Grant, refused, granted, allocate, filePage, slabPage, outAt, freePage, recount, putTo}

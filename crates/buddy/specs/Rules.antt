@@ -1,8 +1,5 @@
 -- The rules of document 01 over the single steps: allocate (4), free (5), file and slab pages (6), set-up (7). Each is a total function.
-use mathlib.Core.Bool.{Bool, true, false, cond, _&&_}
-use mathlib.Core.List.{[], _∷_}
-use Prim.Native.Nat.{ℕ, zero, suc, _+_, _-_, _*_, _/_}
-use lib.Dec.{eqb, leb, ltb}
+use Rattle.common.specs.Kit.{ℕ, zero, suc, _+_, _-_, _*_, _/_, Bool, true, false, cond, _&&_, [], _∷_, eqb, leb, ltb}
 use Rattle.buddy.specs.Runs.{cell, first, start, buddy}
 use Rattle.buddy.specs.Heap.{Kind, free, used, slab, file, tag, Heap}
 use Rattle.buddy.specs.Steps.{push, take, split, merge, label, withRun, add}

@@ -1,10 +1,7 @@
 -- The single steps on a heap, each of one order: put on a list, take off, split, merge, label, add. A block is named by its order and
 -- the number of its run. A block that is off the lists is out, also for as long as a rule has it in hand.
-use mathlib.Core.Bool.{Bool, cond, _||_}
-use mathlib.Core.List.{_∷_}
-use Prim.Native.Nat.{ℕ, suc, _+_, _-_, _*_}
-use lib.Dec.{eqb}
-use Rattle.ground.specs.Numbers.{update, remove}
+use Rattle.common.specs.Kit.{ℕ, suc, _+_, _-_, _*_, Bool, cond, _||_, _∷_, eqb}
+use Rattle.common.specs.Numbers.{update, remove}
 use Rattle.buddy.specs.Runs.{cell, first}
 use Rattle.buddy.specs.Heap.{Kind, free, used, Tag, tag, Heap}
 

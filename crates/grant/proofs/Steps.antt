@@ -1,14 +1,6 @@
--- The steps of a grant: the search for a list and the split down, taken one step, and the page that is taken. Assumes nothing.
-use Prim.Native.Nat.{ℕ, suc, _+_, _-_, _<_}
-use mathlib.Core.Path.{_≡_, refl}
-use mathlib.Core.Bool.{cond}
-use mathlib.Core.List.{List}
-use native.Mathlib.Numerals.{add-one}
-use native.Mathlib.Omega.{arith}
-use lib.Dec.{eqb}
-use lib.ListN.{length, getD}
-use borrow.Author.Tests.{eqb-false}
-use Rattle.ground.proofs.Tests.{by-test}
+-- The steps of a grant: the search for a list and the split down, taken one step, and the page that is taken.
+use Rattle.common.specs.Kit.{ℕ, suc, _+_, _-_, _<_, _≡_, refl, cond, List, eqb, length, getD, add-one, arith, eqb-false}
+use Rattle.common.proofs.Tests.{by-test}
 use Rattle.words.specs.Word.{noPage}
 use Rattle.region.specs.State.{State, headIn, ifAt, headTaken, takeHead, TakeOk, split, SplitOk}
 use Rattle.region.specs.Steps.{lowestFrom, splitDown, DownOk}

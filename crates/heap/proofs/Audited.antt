@@ -1,8 +1,5 @@
--- What the answer of the audit says: where it is yes, record and words are sound. Assumes nothing.
-use mathlib.Core.Path.{_≡_, sym, _∙_}
-use mathlib.Core.Bool.{Bool, true}
-use mathlib.Core.List.{List}
-use Prim.Native.Nat.{ℕ}
+-- What the answer of the audit says: where it is yes, record and words are sound.
+use Rattle.common.specs.Kit.{ℕ, _≡_, sym, _∙_, Bool, true, List}
 use Rattle.region.specs.Sound.{Sound}
 use Rattle.region.specs.declared.HeapMemoryRegion.{HeapMemoryRegion}
 use Rattle.audit.specs.Check.{soundB}

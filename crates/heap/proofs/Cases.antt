@@ -1,10 +1,7 @@
 -- The cases of document 01 on region R, of the promises, by computation: what each call tells, and what lists and counts it leaves. These are
--- results. Assumes nothing.
-use mathlib.Core.Path.{_≡_, refl}
-use mathlib.Core.List.{List, [], _∷_, map}
-use Prim.Native.Nat.{ℕ, _+_, _-_, _*_, _^_}
-use lib.ListN.{getD, replicate, set}
-use Rattle.ground.specs.Numbers.{update, remove}
+-- results.
+use Rattle.common.specs.Kit.{ℕ, _+_, _-_, _*_, _^_, _≡_, refl, List, [], _∷_, map, getD, set, replicate}
+use Rattle.common.specs.Numbers.{update, remove}
 use Rattle.words.specs.Place.{pageAt}
 use Rattle.words.specs.Word.{row, decodeOf, memOf}
 use Rattle.buddy.specs.Runs.{cell, first, buddy}
@@ -14,9 +11,9 @@ use Rattle.region.specs.Layout.{maxPages}
 use Rattle.region.specs.Pages.{sum}
 use Rattle.region.specs.Image.{nextAfter, entry, shown, table as values, regionOf, wordsOf, tagSaid, walk, heapOf}
 use Rattle.audit.specs.Check.{all, allSay, blockAt, tiles, isFree, chain, lowerHalf, keeps, soundB}
-use Rattle.calls.specs.Told.{Told, ok, no, Result}
-use Rattle.calls.specs.Promise.{grants, soundAllocate, soundFile, slabGrants, soundSlab, atPage, soundFree, soundGet, soundPut, lookedUp, soundLookup}
-use Rattle.calls.proofs.Requests.{Request, forBlock, forFile, forSlab, at, toFree, toGet, toPut}
+use Rattle.sound_calls.specs.Told.{Told, ok, no, Result}
+use Rattle.sound_calls.specs.Promise.{grants, soundAllocate, soundFile, slabGrants, soundSlab, atPage, soundFree, soundGet, soundPut, lookedUp, soundLookup}
+use Rattle.sound_calls.proofs.Requests.{Request, forBlock, forFile, forSlab, at, toFree, toGet, toPut}
 use Rattle.heap.specs.Promise.{setUpTold, setUpPromise, allocatePromise, filePromise, slabPromise, freePromise, getPromise, putPromise, lookupPromise, auditPromise, reportPromise}
 use Rattle.heap.proofs.Sound.{promise}
 

@@ -1,8 +1,6 @@
 -- Each promise fixes what its function answers and leaves: two results that meet it are equal. A result tells what it answers, and what is told
--- fixes the answer. These are results. Assumes nothing.
-use mathlib.Core.Path.{_≡_, sym, ap, _∙_}
-use mathlib.Core.List.{List}
-use Prim.Native.Nat.{ℕ}
+-- fixes the answer. These are results.
+use Rattle.common.specs.Kit.{ℕ, _≡_, sym, ap, _∙_, List}
 use Rattle.words.specs.Word.{decodeOf, encodeOf}
 use Rattle.words.specs.Order.{orderOf}
 use Rattle.words.specs.declared.place.VirtAddr.{VirtAddr}
@@ -10,14 +8,14 @@ use Rattle.words.specs.declared.word.PageInfo.{PageInfo}
 use Rattle.words.specs.declared.word.Decoded.{Decoded}
 use Rattle.words.specs.declared.word.Encoded.{Encoded}
 use Rattle.region.specs.declared.HeapMemoryRegion.{HeapMemoryRegion}
-use Rattle.calls.specs.Told.{done, grant, count, layout, Result, result}
-use Rattle.calls.specs.declared.Done.{Done}
-use Rattle.calls.specs.declared.Count.{Count}
-use Rattle.calls.specs.declared.Layout.{Layout}
-use Rattle.calls.specs.declared.Finished.{Finished}
-use Rattle.calls.specs.declared.Granted.{Granted}
-use Rattle.calls.specs.declared.Counted.{Counted}
-use Rattle.calls.proofs.Answers.{dones, grants, counts, layouts, told-one, result-one}
+use Rattle.sound_calls.specs.Told.{done, grant, count, layout, Result, result}
+use Rattle.sound_calls.specs.declared.Done.{Done}
+use Rattle.sound_calls.specs.declared.Count.{Count}
+use Rattle.sound_calls.specs.declared.Layout.{Layout}
+use Rattle.sound_calls.specs.declared.Finished.{Finished}
+use Rattle.sound_calls.specs.declared.Granted.{Granted}
+use Rattle.sound_calls.specs.declared.Counted.{Counted}
+use Rattle.sound_calls.proofs.Answers.{dones, grants, counts, layouts, told-one, result-one}
 use Rattle.heap.specs.Fields.{encodeFields}
 use Rattle.heap.specs.Promise.{emptyRegion, setUpPromise, allocatePromise, filePromise, slabPromise, freePromise, getPromise, putPromise, lookupPromise, auditPromise, ReportTold, reportTold, reportPromise}
 use Rattle.heap.specs.declared.Report.{Report}

@@ -1,27 +1,18 @@
 -- Set-up: the ways through its checks, and that the code and the promise agree. Its numbers are those of a region exactly when no check refuses.
--- Assumes nothing.
-use mathlib.Core.Path.{_≡_, ap}
-use mathlib.Core.Logic.{_≢_}
-use mathlib.Core.Bool.{false, cond, _&&_}
-use mathlib.Core.List.{List, []}
-use Prim.Native.Nat.{ℕ, _+_, _*_, _%_, _-_, _^_}
-use native.Mathlib.Omega.{arith}
-use lib.Dec.{leb, eqb}
-use lib.ListN.{length}
-use borrow.Author.Tests.{leb-true, eqb-true, ne-eqb}
-use Rattle.ground.proofs.Tests.{by-test, and-true}
+use Rattle.common.specs.Kit.{ℕ, _+_, _-_, _*_, _%_, _^_, _≡_, ap, _≢_, false, cond, _&&_, List, [], eqb, leb, length, arith, ne-eqb, eqb-true, leb-true}
+use Rattle.common.proofs.Tests.{by-test, and-true}
 use Rattle.words.specs.declared.place.VirtAddr.{VirtAddr}
 use Rattle.buddy.specs.Rules.{setUp}
 use Rattle.buddy.proofs.Refill.{never}
 use Rattle.region.specs.Layout.{maxPages, allocPages, Limits}
 use Rattle.setup.specs.Steps.{bare as bareState, initMemory}
 use Rattle.setup.proofs.Init.{init-image}
-use Rattle.calls.specs.Told.{Told, ok, no, refusal, Result}
-use Rattle.calls.specs.Promise.{kept, became}
-use Rattle.calls.specs.Code.{leaves}
-use Rattle.calls.specs.declared.AllocError.{AllocError}
-use Rattle.calls.specs.declared.Done.the-variants as Done
-use Rattle.calls.proofs.Answers.{dones, told-one}
+use Rattle.sound_calls.specs.Told.{Told, ok, no, refusal, Result}
+use Rattle.sound_calls.specs.Promise.{kept, became}
+use Rattle.sound_calls.specs.Code.{leaves}
+use Rattle.sound_calls.specs.declared.AllocError.{AllocError}
+use Rattle.sound_calls.specs.declared.Done.the-variants as Done
+use Rattle.sound_calls.proofs.Answers.{dones, told-one}
 use Rattle.heap.specs.Promise.{bare, emptyRegion, setUpTold, setUpPromise}
 
 module _ (start n a words : ℕ) where

@@ -1,25 +1,22 @@
 -- From sound input every call leaves sound output, of the code's types; from unsound input nothing changes, and the call says so; a refusal
--- changes nothing. These are results. Assumes nothing.
-use mathlib.Core.Path.{_≡_, refl}
-use mathlib.Core.Logic.{_≢_}
-use mathlib.Core.List.{List, []}
-use Prim.Native.Nat.{ℕ}
-use Rattle.ground.proofs.Tests.{by-test}
+-- changes nothing. These are results.
+use Rattle.common.specs.Kit.{ℕ, _≡_, refl, _≢_, List, []}
+use Rattle.common.proofs.Tests.{by-test}
 use Rattle.words.specs.declared.place.VirtAddr.{VirtAddr}
 use Rattle.region.specs.Sound.{Sound}
 use Rattle.region.specs.declared.HeapMemoryRegion.{HeapMemoryRegion}
-use Rattle.image.proofs.Step.{Lent}
-use Rattle.image.proofs.Inverse.{write-typed}
-use Rattle.image.proofs.Fresh.{fresh, fresh-fine, fresh-sound}
-use Rattle.image.specs.Fine.{managed}
+use Rattle.refine.proofs.Step.{Lent}
+use Rattle.refine.proofs.Inverse.{write-typed}
+use Rattle.refine.proofs.Fresh.{fresh, fresh-fine, fresh-sound}
+use Rattle.refine.specs.Fine.{managed}
 use Rattle.audit.specs.Check.{soundB}
 use Rattle.audit.proofs.Sound.{sound-decides}
-use Rattle.calls.specs.Told.{no, Result}
-use Rattle.calls.specs.Promise.{kept}
-use Rattle.calls.proofs.Good.{Good}
-use Rattle.calls.proofs.Requests.{Request, forBlock, forFile, forSlab, at, toFree, toGet, toPut, promised}
-use Rattle.calls.proofs.Refused.{refuses, either-stays, promised-stays}
-use Rattle.calls.proofs.Keeps.{keeps}
+use Rattle.sound_calls.specs.Told.{no, Result}
+use Rattle.sound_calls.specs.Promise.{kept}
+use Rattle.sound_calls.proofs.Good.{Good}
+use Rattle.sound_calls.proofs.Requests.{Request, forBlock, forFile, forSlab, at, toFree, toGet, toPut, promised}
+use Rattle.sound_calls.proofs.Refused.{refuses, either-stays, promised-stays}
+use Rattle.sound_calls.proofs.Keeps.{keeps}
 use Rattle.heap.specs.Promise.{bare, emptyRegion, setUpPromise, audited, allocatePromise, filePromise, slabPromise, freePromise, getPromise, putPromise}
 use Rattle.heap.proofs.SetUps.{set-up-results}
 

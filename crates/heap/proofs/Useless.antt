@@ -1,16 +1,10 @@
 -- Useless heaps are refused: no function that keeps its promise always refuses set-up, always answers 6, always grants one page, changes nothing
 -- by a free or a put, invents its counts, or says Damaged of everything. Each fails on region R, by computation. These are results.
--- Assumes nothing.
-use mathlib.Core.Path.{_≡_, sym, ap, _∙_}
-use mathlib.Core.Logic.{_≢_}
-use mathlib.Core.List.{List, [], _∷_}
-use Prim.Native.Nat.{ℕ}
-use native.Mathlib.Omega.{arith}
-use lib.ListN.{getD}
+use Rattle.common.specs.Kit.{ℕ, _≡_, sym, ap, _∙_, _≢_, List, [], _∷_, getD, arith}
 use Rattle.words.specs.declared.place.VirtAddr.{VirtAddr}
 use Rattle.region.specs.declared.HeapMemoryRegion.{HeapMemoryRegion}
-use Rattle.calls.specs.Told.{Told, ok, no, Result}
-use Rattle.calls.proofs.Requests.{forBlock}
+use Rattle.sound_calls.specs.Told.{Told, ok, no, Result}
+use Rattle.sound_calls.proofs.Requests.{forBlock}
 use Rattle.heap.specs.Promise.{setUpPromise, allocatePromise, freePromise, putPromise, auditPromise, ReportTold, reportTold, reportPromise}
 use Rattle.heap.specs.declared.Report.{Report}
 use Rattle.heap.proofs.Cases.{page, R, then, one, filed, on-R}

@@ -1,7 +1,5 @@
 -- A page's fields as numbers: the type's number as document 01's table has it, then order, item size or count, then the next page.
-use Prim.Native.Nat.{ℕ}
-use mathlib.Core.Bool.{cond, _&&_}
-use lib.Dec.{eqb}
+use Rattle.common.specs.Kit.{ℕ, cond, _&&_, eqb}
 use Rattle.words.specs.Word.{encodeOf}
 use Rattle.words.specs.declared.word.PageInfo.the-variants.{Free, Allocated, Slab, Compound, File, Reserved}
 use Rattle.words.specs.declared.word.Encoded.{Encoded}

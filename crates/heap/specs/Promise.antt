@@ -1,18 +1,14 @@
 -- What each public call promises, for all input: its answer, the record and every word. Each promise is one total function that computes:
 -- soundness first, then the table's checks in the table's order, then the model's rule.
-use Prim.Native.Nat.{ℕ, _+_, _-_, _*_, _%_, _^_}
-use mathlib.Core.Bool.{cond, _&&_}
-use mathlib.Core.List.{List, []}
-use lib.Dec.{leb, eqb}
-use lib.ListN.{length, replicate}
+use Rattle.common.specs.Kit.{ℕ, _+_, _-_, _*_, _%_, _^_, cond, _&&_, List, [], eqb, leb, length, replicate}
 use Rattle.words.specs.Word.{noPage}
 use Rattle.words.specs.declared.place.VirtAddr.{VirtAddr}
 use Rattle.buddy.specs.Rules.{setUp}
 use Rattle.region.specs.Layout.{maxPages, allocPages}
 use Rattle.region.specs.declared.HeapMemoryRegion.{HeapMemoryRegion}
 use Rattle.audit.specs.Check.{soundB}
-use Rattle.calls.specs.Told.{Told, ok, no, done, Result}
-use Rattle.calls.specs.Promise.{kept, became, soundAllocate, soundFile, soundSlab, soundFree, soundGet, soundPut, soundLookup}
+use Rattle.sound_calls.specs.Told.{Told, ok, no, done, Result}
+use Rattle.sound_calls.specs.Promise.{kept, became, soundAllocate, soundFile, soundSlab, soundFree, soundGet, soundPut, soundLookup}
 use Rattle.heap.specs.declared.Report.{Report}
 
 -- a record without lists: "no pages, counts 0, no lists" where the numbers are 0

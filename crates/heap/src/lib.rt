@@ -1,6 +1,6 @@
 // The public heap: every call of document 01 on any record and any words, refused by number where it must be. Nothing is demanded of a caller.
 // For monitors that link it and tools that run it. Below it stand the audit, set-up, and the calls on a sound state.
-use calls::Done;
+use sound_calls::Done;
 
 pub mod reads;
 pub mod requests;

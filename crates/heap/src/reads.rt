@@ -1,12 +1,12 @@
 // The calls that only read: lookup, report and audit.
 ghost use mathlib.Core.Path.{_≡_};
-ghost use Rattle.calls.specs.Told.{done, layout};
+ghost use Rattle.sound_calls.specs.Told.{done, layout};
 ghost use Rattle.heap.specs.Promise.{lookupPromise, reportTold, reportPromise, auditPromise};
 use crate::Report;
-use calls::AllocError;
-use calls::Done;
-use calls::Layout;
 use region::HeapMemoryRegion;
+use sound_calls::AllocError;
+use sound_calls::Done;
+use sound_calls::Layout;
 use words::place::VirtAddr;
 
 // Size and alignment of what the page of an address was granted as.
@@ -14,7 +14,7 @@ pub fn layout_from_ptr(region: HeapMemoryRegion, words: &[u64], vaddr: VirtAddr)
     ensures { λ r. ⌜ layout r ≡ lookupPromise region (now (words .entry)) (vaddr .0) ⌝ }
 {
     if audit::audit(region, words) {
-        calls::lookup::layout_from_ptr(region, words, vaddr)
+        sound_calls::lookup::layout_from_ptr(region, words, vaddr)
     } else {
         Layout::Refused(AllocError::Damaged)
     }

@@ -1,17 +1,17 @@
 // The calls that grant, return and count pages. Each audits first.
 ghost use mathlib.Core.Path.{_≡_};
 ghost use mathlib.Core.List.{[]};
-ghost use Rattle.calls.specs.Told.{no, result, done, grant, count};
+ghost use Rattle.sound_calls.specs.Told.{no, result, done, grant, count};
 ghost use Rattle.heap.specs.Promise.{allocatePromise, filePromise, slabPromise, freePromise, getPromise, putPromise};
 use audit::audit;
-use calls::AllocError;
-use calls::Count;
-use calls::Counted;
-use calls::Done;
-use calls::Finished;
-use calls::Grant;
-use calls::Granted;
 use region::HeapMemoryRegion;
+use sound_calls::AllocError;
+use sound_calls::Count;
+use sound_calls::Counted;
+use sound_calls::Done;
+use sound_calls::Finished;
+use sound_calls::Grant;
+use sound_calls::Granted;
 use words::place::VirtAddr;
 
 fn damaged_grant(region: HeapMemoryRegion) -> Granted
@@ -28,7 +28,7 @@ pub fn allocate_pages(region: HeapMemoryRegion, words: &mut [u64], order: usize)
     ensures { λ r. ⌜ result (grant (r .answer)) (r .region) (now (words .exit)) ≡ allocatePromise region (now (words .entry)) order ⌝ }
 {
     if audit(region, words) {
-        calls::grants::allocate_pages(region, words, order)
+        sound_calls::grants::allocate_pages(region, words, order)
     } else {
         damaged_grant(region)
     }
@@ -39,7 +39,7 @@ pub fn allocate_file_page(region: HeapMemoryRegion, words: &mut [u64]) -> Grante
     ensures { λ r. ⌜ result (grant (r .answer)) (r .region) (now (words .exit)) ≡ filePromise region (now (words .entry)) ⌝ }
 {
     if audit(region, words) {
-        calls::grants::allocate_file_page(region, words)
+        sound_calls::grants::allocate_file_page(region, words)
     } else {
         damaged_grant(region)
     }
@@ -50,7 +50,7 @@ pub fn allocate_slab_page(region: HeapMemoryRegion, words: &mut [u64], item_size
     ensures { λ r. ⌜ result (grant (r .answer)) (r .region) (now (words .exit)) ≡ slabPromise region (now (words .entry)) «item_size» ⌝ }
 {
     if audit(region, words) {
-        calls::grants::allocate_slab_page(region, words, item_size)
+        sound_calls::grants::allocate_slab_page(region, words, item_size)
     } else {
         damaged_grant(region)
     }
@@ -61,7 +61,7 @@ pub fn free_page(region: HeapMemoryRegion, words: &mut [u64], vaddr: VirtAddr) -
     ensures { λ r. ⌜ result (done (r .answer)) (r .region) (now (words .exit)) ≡ freePromise region (now (words .entry)) (vaddr .0) ⌝ }
 {
     if audit(region, words) {
-        calls::free::free_page(region, words, vaddr)
+        sound_calls::free::free_page(region, words, vaddr)
     } else {
         Finished {
             region: region,
@@ -75,7 +75,7 @@ pub fn get_file_page(region: HeapMemoryRegion, words: &mut [u64], vaddr: VirtAdd
     ensures { λ r. ⌜ result (count r) region (now (words .exit)) ≡ getPromise region (now (words .entry)) (vaddr .0) ⌝ }
 {
     if audit(region, words) {
-        calls::files::get_file_page(region, words, vaddr)
+        sound_calls::files::get_file_page(region, words, vaddr)
     } else {
         Count::Refused(AllocError::Damaged)
     }
@@ -86,7 +86,7 @@ pub fn put_file_page(region: HeapMemoryRegion, words: &mut [u64], vaddr: VirtAdd
     ensures { λ r. ⌜ result (count (r .answer)) (r .region) (now (words .exit)) ≡ putPromise region (now (words .entry)) (vaddr .0) ⌝ }
 {
     if audit(region, words) {
-        calls::files::put_file_page(region, words, vaddr)
+        sound_calls::files::put_file_page(region, words, vaddr)
     } else {
         Counted {
             region: region,

@@ -1,15 +1,15 @@
 // Set-up of a region.
 ghost use mathlib.Core.Path.{_≡_};
-ghost use Rattle.calls.specs.Told.{result, done};
+ghost use Rattle.sound_calls.specs.Told.{result, done};
 ghost use Rattle.heap.specs.Promise.{emptyRegion, setUpTold, setUpPromise};
-use calls::AllocError;
-use calls::Done;
-use calls::Finished;
 use region::HeapMemoryRegion;
 use region::alloc_pages;
 use region::pages_good;
 use setup::bare_region;
 use setup::init_memory;
+use sound_calls::AllocError;
+use sound_calls::Done;
+use sound_calls::Finished;
 use words::place::PAGE_SIZE;
 use words::place::VirtAddr;
 

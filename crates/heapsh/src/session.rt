@@ -1,12 +1,12 @@
 // The input, block after block. A line may begin in one block and end in another.
 ghost use Prim.Native.Nat.{_≤_};
 ghost use lib.ListN.{length};
-use ask::input::LONGEST;
 use libc::STDIN_FILENO;
+use parse::input::LONGEST;
 use shell::Shell;
 use shell::answer;
 use shell::fresh;
-use show::flush;
+use text::flush;
 
 // A shell amid its input: `kept` bytes of an unfinished line stand at the front of the input's buffer.
 struct Session {

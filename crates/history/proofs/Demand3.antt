@@ -1,12 +1,6 @@
--- DEMAND 3 of the public calls: it holds of the model at every moment, and every moment is mirrored by one of the model's. Assumes nothing.
-use mathlib.Core.Path.{_≡_, refl, sym, subst, _∙_}
-use mathlib.Core.Logic.{_↔_, inr, by-cases}
-use mathlib.Core.List.{List}
-use Prim.Native.Nat.{ℕ, zero, suc, _-_, _≤_}
-use native.Mathlib.Nat.{le-refl}
-use native.Mathlib.Omega.{arith}
-use native.Mathlib.Decide.{decLe}
-use Rattle.ground.specs.Numbers.{count}
+-- DEMAND 3 of the public calls: it holds of the model at every moment, and every moment is mirrored by one of the model's.
+use Rattle.common.specs.Kit.{ℕ, zero, suc, _-_, _≤_, _≡_, refl, sym, _∙_, subst, _↔_, inr, by-cases, List, le-refl, decLe, arith}
+use Rattle.common.specs.Numbers.{count}
 use Rattle.words.specs.declared.place.VirtAddr.{VirtAddr}
 use Rattle.buddy.specs.Heap.{file}
 use Rattle.buddy.specs.Rules.{refused, allocate, span}
@@ -19,9 +13,9 @@ use Rattle.buddy.proofs.Demand3 as Proved
 use Rattle.region.specs.Layout.{endOf}
 use Rattle.region.specs.Image.{heapOf}
 use Rattle.region.specs.declared.HeapMemoryRegion.{HeapMemoryRegion}
-use Rattle.image.specs.Fine.{managed}
-use Rattle.calls.proofs.Good.{fine}
-use Rattle.calls.proofs.Heads.{file-said}
+use Rattle.refine.specs.Fine.{managed}
+use Rattle.sound_calls.proofs.Good.{fine}
+use Rattle.sound_calls.proofs.Heads.{file-said}
 use Rattle.history.specs.Calls.{Call, allocatePages, allocateFilePage, allocateSlabPage, Moment, after, Succeeded}
 use Rattle.history.specs.Demand.{addressOf, Out, Clear, WantsMemory, Counted, Demand3}
 use Rattle.history.proofs.Mirror.{Mirror, mirror}

@@ -1,18 +1,10 @@
 -- How many blocks and pages are free, and how many are out: a free block stands on its list once, and a block out in the record once.
--- Assumes nothing.
-use mathlib.Core.Path.{_≡_, refl, sym, _∙_}
-use mathlib.Core.Logic.{_≢_, _↔_}
-use mathlib.Core.Bool.{Bool, true, false, not, _&&_}
-use mathlib.Core.List.{List, [], _∷_, List·Memᴰ, List·Memᴰ·head}
-use Prim.Native.Nat.{ℕ, zero, suc, _+_, _≤_, _<_}
-use native.Mathlib.Omega.{arith}
-use lib.Dec.{T, eqb, eqb→eq}
-use lib.ListN.{length}
-use Rattle.ground.specs.Numbers.{remove, Once, one, count}
-use Rattle.ground.proofs.Tests.{by-test, T-and, and-T}
-use Rattle.ground.proofs.Lists.{mem-of-remove, not-removed, mem-remove, once-remove}
-use Rattle.ground.proofs.Counts.{count-parts}
-use Rattle.ground.proofs.Bounds.{length-remove}
+use Rattle.common.specs.Kit.{ℕ, zero, suc, _+_, _≤_, _<_, _≡_, refl, sym, _∙_, _≢_, _↔_, Bool, true, false, not, _&&_, List, [], _∷_, List·Memᴰ, List·Memᴰ·head, T, eqb, eqb→eq, length, arith}
+use Rattle.common.specs.Numbers.{remove, Once, one, count}
+use Rattle.common.proofs.Tests.{by-test, T-and, and-T}
+use Rattle.common.proofs.Lists.{mem-of-remove, not-removed, mem-remove, once-remove}
+use Rattle.common.proofs.Counts.{count-parts}
+use Rattle.common.proofs.Bounds.{length-remove}
 use Rattle.buddy.specs.Runs.{Head}
 use Rattle.buddy.specs.Heap.{Kind, free, Tag, Listed, heads}
 use Rattle.buddy.specs.Rules.{isFree}

@@ -1,26 +1,20 @@
 -- Every history is mirrored by one of the model: the record and the words show the heap that the model reaches by its calls, and what is written
--- down is what the model writes, with addresses for pages. Assumes nothing.
-use mathlib.Core.Path.{_≡_, refl, sym, ap, _∙_}
-use mathlib.Core.Bool.{_&&_}
-use mathlib.Core.List.{List, [], _∷_, _++_, map, map-append}
-use Prim.Native.Nat.{ℕ, _+_, _*_, _%_, _^_, _-_}
-use native.Mathlib.Omega.{arith}
-use lib.Dec.{eqb, leb}
-use lib.ListN.{length}
-use borrow.Author.Tests.{eqb-true, eqb-false, leb-true}
-use Rattle.ground.proofs.Tests.{by-test, and-true}
+-- down is what the model writes, with addresses for pages.
+use Rattle.common.specs.Kit.{ℕ, _+_, _-_, _*_, _%_, _^_, _≡_, refl, sym, ap, _∙_, _&&_, List, [], _∷_, _++_, map, eqb, leb, length, arith, eqb-true, eqb-false, leb-true}
+use mathlib.Core.List.{map-append}
+use Rattle.common.proofs.Tests.{by-test, and-true}
 use Rattle.words.specs.declared.place.VirtAddr.{VirtAddr}
 use Rattle.buddy.specs.Rules.{setUp}
 use Rattle.buddy.specs.History as Model
 use Rattle.region.specs.Layout.{endOf, maxPages, allocPages, Limits}
 use Rattle.region.specs.Image.{heapOf, regionOf}
 use Rattle.region.specs.declared.HeapMemoryRegion.{HeapMemoryRegion}
-use Rattle.image.specs.Fine.{managed}
-use Rattle.image.proofs.Inverse.{write-typed, write-read, write-sound}
-use Rattle.image.proofs.Step.{Lent}
-use Rattle.image.proofs.Fresh.{fresh-fine}
-use Rattle.calls.specs.Told.{Result}
-use Rattle.calls.proofs.Good.{Good, lent, write-good}
+use Rattle.refine.specs.Fine.{managed}
+use Rattle.refine.proofs.Inverse.{write-typed, write-read, write-sound}
+use Rattle.refine.proofs.Step.{Lent}
+use Rattle.refine.proofs.Fresh.{fresh-fine}
+use Rattle.sound_calls.specs.Told.{Result}
+use Rattle.sound_calls.proofs.Good.{Good, lent, write-good}
 use Rattle.heap.specs.Promise.{bare, setUpTold, setUpPromise}
 use Rattle.history.specs.Calls.{Call, called, written, Moment, next, after, Succeeded}
 use Rattle.history.proofs.Renamed.{renamed}

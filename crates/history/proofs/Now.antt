@@ -1,10 +1,6 @@
--- A moment and the moment of the model that mirrors it: what is managed, still out or clear by the one is so by the other. Assumes nothing.
-use mathlib.Core.Path.{_≡_, sym, subst}
-use mathlib.Core.Logic.{inl, inr}
-use mathlib.Core.List.{List, map, List·Memᴰ, Memᴰ·map, Memᴰ·of-map}
-use Prim.Native.Nat.{ℕ}
-use native.Mathlib.Omega.{arith}
-use lib.Dec.{T}
+-- A moment and the moment of the model that mirrors it: what is managed, still out or clear by the one is so by the other.
+use Rattle.common.specs.Kit.{ℕ, _≡_, sym, subst, inl, inr, List, map, List·Memᴰ, T, arith}
+use mathlib.Core.List.{Memᴰ·map, Memᴰ·of-map}
 use Rattle.buddy.specs.History as Model
 use Rattle.buddy.specs.History.{stillOut, gets, puts, grantedAs}
 use Rattle.buddy.specs.Demand as Of
@@ -14,7 +10,7 @@ use Rattle.buddy.proofs.Demand3.{kept}
 use Rattle.region.specs.Layout.{endOf}
 use Rattle.region.specs.Image.{heapOf}
 use Rattle.region.specs.declared.HeapMemoryRegion.{HeapMemoryRegion}
-use Rattle.image.specs.Fine.{managed}
+use Rattle.refine.specs.Fine.{managed}
 use Rattle.history.specs.Calls.{Moment}
 use Rattle.history.specs.Demand.{addressOf, Managed, Out, Stands, Clear}
 use Rattle.history.proofs.Renamed.{renamed-out, renamed-gets, renamed-puts, renamed-as}

@@ -1,14 +1,7 @@
 -- What a public call does on sound record and words: nothing, and nothing is written down; or one call of the model, and what is written down
--- is what the model writes, with addresses for pages. Assumes nothing.
-use mathlib.Core.Path.{_≡_, refl, ap, subst}
-use mathlib.Core.Logic.{_≢_}
-use mathlib.Core.Bool.{Bool, true}
-use mathlib.Core.List.{List, [], map}
-use Prim.Native.Nat.{ℕ, _+_, _*_, _≤_}
-use native.Mathlib.Omega.{arith}
-use lib.Dec.{eqb}
-use borrow.Author.Tests.{ne-eqb}
-use Rattle.ground.proofs.Tests.{by-test}
+-- is what the model writes, with addresses for pages.
+use Rattle.common.specs.Kit.{ℕ, _+_, _*_, _≤_, _≡_, refl, ap, subst, _≢_, Bool, true, List, [], map, eqb, arith, ne-eqb}
+use Rattle.common.proofs.Tests.{by-test}
 use Rattle.words.specs.declared.place.PageAt.{PageAt}
 use Rattle.words.specs.declared.place.PageAt.the-variants.{Start, Within}
 use Rattle.words.specs.declared.word.PageInfo.the-variants.{Free, Allocated, Slab, Compound, File, Reserved}
@@ -24,16 +17,16 @@ use Rattle.buddy.proofs.Calls.{Asks, plain, filed, slabbed, Called, refuse as r
 use Rattle.pages.specs.Said.{said}
 use Rattle.region.specs.Image.{heapOf}
 use Rattle.region.specs.declared.HeapMemoryRegion.{HeapMemoryRegion}
-use Rattle.image.specs.Fine.{managed, Fine}
-use Rattle.image.proofs.Step.{bound}
+use Rattle.refine.specs.Fine.{managed, Fine}
+use Rattle.refine.proofs.Step.{bound}
 use Rattle.audit.specs.Check.{soundB}
 use Rattle.audit.proofs.Sound.{sound-decides}
-use Rattle.calls.specs.Told.{Told, ok, Result}
-use Rattle.calls.specs.Promise.{kept, became, layoutOf, lookedUp, soundLookup}
-use Rattle.calls.proofs.Good.{Good, fine}
-use Rattle.calls.proofs.Places.{place}
-use Rattle.calls.proofs.Requests.{toFree, toGet, toPut, Request, forBlock, forFile, forSlab, at, callAt, promised, Starts, Refuses, order, memory, address, boot, type, no-file, full, item, Tells, tells-done, tells-page, tells-count, Way, refuse, succeed}
-use Rattle.calls.proofs.Ways.{ways}
+use Rattle.sound_calls.specs.Told.{Told, ok, Result}
+use Rattle.sound_calls.specs.Promise.{kept, became, layoutOf, lookedUp, soundLookup}
+use Rattle.sound_calls.proofs.Good.{Good, fine}
+use Rattle.sound_calls.proofs.Places.{place}
+use Rattle.sound_calls.proofs.Requests.{toFree, toGet, toPut, Request, forBlock, forFile, forSlab, at, callAt, promised, Starts, Refuses, order, memory, address, boot, type, no-file, full, item, Tells, tells-done, tells-page, tells-count, Way, refuse, succeed}
+use Rattle.sound_calls.proofs.Ways.{ways}
 use Rattle.heap.specs.Promise.{allocatePromise, filePromise, slabPromise, freePromise, getPromise, putPromise, lookupPromise, reportPromise, auditPromise}
 use Rattle.history.specs.Calls.{Call, allocatePages, allocateFilePage, allocateSlabPage, freePage, getFilePage, putFilePage, layoutFromPtr, memoryInfo, audit, called, written}
 use Rattle.history.proofs.Renamed.{renamed}

@@ -1,14 +1,8 @@
 -- A record with other names for pages: what is read off it is what is read off the record itself, if no two pages have one name.
--- Assumes nothing.
-use mathlib.Core.Path.{_≡_, refl, sym, ap, _∙_}
-use mathlib.Core.Logic.{by-cases}
-use mathlib.Core.List.{List, [], _∷_, map, Memᴰ·of-map}
-use Prim.Native.Nat.{ℕ}
-use native.Mathlib.Decide.{ℕ-discrete}
-use lib.Dec.{eqb}
-use borrow.Author.Tests.{eq-eqb, ne-eqb}
-use Rattle.ground.specs.Numbers.{remove, Once}
-use Rattle.ground.proofs.Tests.{by-test}
+use Rattle.common.specs.Kit.{ℕ, _≡_, refl, sym, ap, _∙_, by-cases, List, [], _∷_, map, eqb, ℕ-discrete, eq-eqb, ne-eqb}
+use mathlib.Core.List.{Memᴰ·of-map}
+use Rattle.common.specs.Numbers.{remove, Once}
+use Rattle.common.proofs.Tests.{by-test}
 use Rattle.buddy.specs.History.{Event, took, gave, got, left, stillOut, gets, puts, grantedAs}
 
 module _ (f : ℕ → ℕ) where

@@ -1,18 +1,9 @@
 -- More that holds at every moment of every history: no page is granted that is still out, the counts are those of free blocks and of blocks
--- still out, and when all is back all is free. Assumes nothing.
-use mathlib.Core.Path.{_≡_, refl, sym, ap, subst, _∙_}
-use mathlib.Core.Logic.{_↔_, ⊎-elim, by-cases}
-use mathlib.Core.Bool.{Bool}
-use mathlib.Core.List.{List, [], _∷_, List·Memᴰ·not-nil}
-use Prim.Native.Nat.{ℕ, _+_, _≤_, _<_}
-use native.Mathlib.Omega.{arith}
-use native.Mathlib.Decide.{decLe}
-use lib.Dec.{T}
-use borrow.Author.Tests.{le-ltb}
-use lib.ListN.{length, getD, length-map}
-use Rattle.ground.specs.Numbers.{count}
-use Rattle.ground.proofs.Tests.{bool-iff}
-use Rattle.ground.proofs.Counts.{count-same}
+-- still out, and when all is back all is free.
+use Rattle.common.specs.Kit.{ℕ, _+_, _≤_, _<_, _≡_, refl, sym, ap, _∙_, subst, _↔_, ⊎-elim, by-cases, Bool, List, [], _∷_, List·Memᴰ·not-nil, T, length, getD, length-map, decLe, arith, le-ltb}
+use Rattle.common.specs.Numbers.{count}
+use Rattle.common.proofs.Tests.{bool-iff}
+use Rattle.common.proofs.Counts.{count-same}
 use Rattle.words.specs.declared.place.VirtAddr.{VirtAddr}
 use Rattle.buddy.specs.Runs.{cell, Head}
 use Rattle.buddy.specs.History as Model
@@ -24,11 +15,11 @@ use Rattle.buddy.proofs.Demand3.{orderOf, bound, grant-clear}
 use Rattle.region.specs.Layout.{endOf}
 use Rattle.region.specs.Image.{heapOf}
 use Rattle.region.specs.declared.HeapMemoryRegion.{HeapMemoryRegion}
-use Rattle.image.specs.Fine.{managed}
-use Rattle.image.proofs.Law.{read-shows}
-use Rattle.calls.specs.Told.{Told, ok}
-use Rattle.calls.specs.Promise.{soundAllocate}
-use Rattle.calls.proofs.Requests.{Request, forBlock, Asks, asks-block, asks-file, asks-slab, callAt, Tells, tells-page}
+use Rattle.refine.specs.Fine.{managed}
+use Rattle.refine.proofs.Law.{read-shows}
+use Rattle.sound_calls.specs.Told.{Told, ok}
+use Rattle.sound_calls.specs.Promise.{soundAllocate}
+use Rattle.sound_calls.proofs.Requests.{Request, forBlock, Asks, asks-block, asks-file, asks-slab, callAt, Tells, tells-page}
 use Rattle.history.specs.Calls.{Call, called, Moment, after, Succeeded}
 use Rattle.history.specs.Demand.{Managed, Free, Clear, Fresh, Grants}
 use Rattle.history.proofs.Frees.{frees, blocks-are, frees-are, page-clear}

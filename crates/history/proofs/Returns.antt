@@ -1,10 +1,6 @@
 -- What a return is, at every moment of every history: a free succeeds exactly at the address of a block still out, and a put answers 0 exactly
--- at that of a file page that was put as often as it was got. Assumes nothing.
-use mathlib.Core.Path.{_≡_, refl, ap, sym, subst, _∙_}
-use mathlib.Core.List.{List, [], _∷_}
-use Prim.Native.Nat.{ℕ, _-_}
-use native.Mathlib.Omega.{arith}
-use lib.ListN.{getD}
+-- at that of a file page that was put as often as it was got.
+use Rattle.common.specs.Kit.{ℕ, _-_, _≡_, refl, sym, ap, _∙_, subst, List, [], _∷_, getD, arith}
 use Rattle.words.specs.declared.place.VirtAddr.{VirtAddr}
 use Rattle.buddy.specs.History as Model
 use Rattle.buddy.specs.History.{done, counted}
@@ -12,9 +8,9 @@ use Rattle.buddy.specs.Demand as Of
 use Rattle.buddy.proofs.Demand3 as Proved
 use Rattle.region.specs.Layout.{endOf}
 use Rattle.region.specs.declared.HeapMemoryRegion.{HeapMemoryRegion}
-use Rattle.image.specs.Fine.{managed}
-use Rattle.calls.specs.Told.{Told, ok}
-use Rattle.calls.proofs.Requests.{toFree, toPut, at, Tells, tells-count}
+use Rattle.refine.specs.Fine.{managed}
+use Rattle.sound_calls.specs.Told.{Told, ok}
+use Rattle.sound_calls.proofs.Requests.{toFree, toPut, at, Tells, tells-count}
 use Rattle.history.specs.Calls.{Call, freePage, putFilePage, called, Moment, after, Succeeded}
 use Rattle.history.specs.Demand.{Demand3, OutAt, LastAt, Returns}
 use Rattle.history.proofs.Plays.{Answers, answers-done, answers-put, start-address, by-success}

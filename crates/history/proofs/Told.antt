@@ -1,14 +1,7 @@
 -- What the public calls answer on sound record and words: when a request wants memory, and what a free, a get and a put answer at the address
--- of a block out and of a file page. Assumes nothing.
-use mathlib.Core.Path.{_≡_, refl, ap}
-use mathlib.Core.Logic.{_≢_, _↔_}
-use mathlib.Core.Bool.{_&&_}
-use mathlib.Core.List.{List, [], _∷_}
-use Prim.Native.Nat.{ℕ, _+_, _-_, _*_, _^_, _≤_, _<_}
-use native.Mathlib.Omega.{arith}
-use lib.Dec.{T, leb}
-use borrow.Author.Tests.{lt-ltb, le-ltb}
-use Rattle.ground.proofs.Tests.{by-test}
+-- of a block out and of a file page.
+use Rattle.common.specs.Kit.{ℕ, _+_, _-_, _*_, _^_, _≤_, _<_, _≡_, refl, ap, _≢_, _↔_, _&&_, List, [], _∷_, T, leb, arith, lt-ltb, le-ltb}
+use Rattle.common.proofs.Tests.{by-test}
 use Rattle.words.proofs.PlaceLaws.{page-of}
 use Rattle.buddy.specs.Heap.{slab, file, Heap}
 use Rattle.buddy.specs.Rules.{Grant, refused, granted, allocate, grantAs, filePage, slabPage}
@@ -20,12 +13,12 @@ use Rattle.region.specs.Layout.{endOf}
 use Rattle.region.specs.Pages.{goodItem}
 use Rattle.region.specs.Image.{heapOf}
 use Rattle.region.specs.declared.HeapMemoryRegion.{HeapMemoryRegion}
-use Rattle.image.specs.Fine.{managed}
-use Rattle.calls.specs.Told.{Told, ok, no, Result}
-use Rattle.calls.specs.Promise.{grants, soundAllocate, soundFile, slabGrants, soundSlab, atPage, onPage, soundFree, soundGet, soundPut}
-use Rattle.calls.proofs.Good.{Good}
-use Rattle.calls.proofs.Heads.{may-free, out-freeable, file-said}
-use Rattle.calls.proofs.Requests.{toFree, toGet, toPut, forBlock, forFile, forSlab, at}
+use Rattle.refine.specs.Fine.{managed}
+use Rattle.sound_calls.specs.Told.{Told, ok, no, Result}
+use Rattle.sound_calls.specs.Promise.{grants, soundAllocate, soundFile, slabGrants, soundSlab, atPage, onPage, soundFree, soundGet, soundPut}
+use Rattle.sound_calls.proofs.Good.{Good}
+use Rattle.sound_calls.proofs.Heads.{may-free, out-freeable, file-said}
+use Rattle.sound_calls.proofs.Requests.{toFree, toGet, toPut, forBlock, forFile, forSlab, at}
 use Rattle.history.specs.Calls.{Call, allocatePages, allocateFilePage, allocateSlabPage, freePage, getFilePage, putFilePage, called}
 use Rattle.history.proofs.Plays.{addressIn, Plays, stays, plays, called-promised, plays-call}
 

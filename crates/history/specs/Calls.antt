@@ -1,16 +1,11 @@
 -- Histories of the public calls. A history starts from a set-up that succeeded, with no other after it; each later call is handed the record
 -- and the words that the last one left; what it answers and leaves is what its promise says, and nothing else is known of it.
-use Prim.Native.Nat.{ℕ}
-use mathlib.Core.Path.{_≡_}
-use mathlib.Core.Bool.{cond}
-use mathlib.Core.List.{List, [], _∷_, _++_}
-use lib.Dec.{eqb}
-use lib.ListN.{getD}
+use Rattle.common.specs.Kit.{ℕ, _≡_, cond, List, [], _∷_, _++_, eqb, getD}
 use Rattle.words.specs.declared.place.VirtAddr.{VirtAddr}
 use Rattle.buddy.specs.Heap.{used, slab, file}
 use Rattle.buddy.specs.History.{Event, took, gave, got, left}
 use Rattle.region.specs.declared.HeapMemoryRegion.{HeapMemoryRegion}
-use Rattle.calls.specs.Told.{Told, Result, result}
+use Rattle.sound_calls.specs.Told.{Told, Result, result}
 use Rattle.heap.specs.Promise.{setUpPromise, allocatePromise, filePromise, slabPromise, freePromise, getPromise, putPromise, lookupPromise, reportPromise, auditPromise}
 
 -- a public call on a region, with any arguments; addresses as they are given

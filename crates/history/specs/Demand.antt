@@ -1,10 +1,6 @@
 -- The customer's demand 3, of the public calls, at one moment of a history.
-use Prim.Native.Nat.{ℕ, _+_, _*_, _^_, _-_, _≤_, _<_}
-use mathlib.Core.Path.{_≡_}
-use mathlib.Core.Logic.{_≢_, _↔_, _⊎_}
-use mathlib.Core.List.{[], _∷_, List·Memᴰ}
-use lib.ListN.{getD}
-use Rattle.ground.specs.Numbers.{Once}
+use Rattle.common.specs.Kit.{ℕ, _+_, _-_, _*_, _^_, _≤_, _<_, _≡_, _≢_, _↔_, _⊎_, [], _∷_, List·Memᴰ, getD}
+use Rattle.common.specs.Numbers.{Once}
 use Rattle.words.specs.declared.word.Decoded.the-variants.{Info}
 use Rattle.buddy.specs.Runs.{cell, first, Head, buddy}
 use Rattle.buddy.specs.Heap.{file}
@@ -14,7 +10,7 @@ use Rattle.pages.specs.Info.{fileInfo}
 use Rattle.pages.specs.Said.{said}
 use Rattle.region.specs.Layout.{endOf}
 use Rattle.region.specs.Image.{heapOf}
-use Rattle.calls.specs.Told.{ok, no}
+use Rattle.sound_calls.specs.Told.{ok, no}
 use Rattle.history.specs.Calls.{Call, allocatePages, allocateFilePage, allocateSlabPage, freePage, getFilePage, putFilePage, called, Moment}
 
 module _ (m : Moment) where

@@ -1,9 +1,5 @@
--- A fill begins with no word, and grows by one word at its end. Assumes nothing.
-use Prim.Native.Nat.{ℕ, _+_}
-use mathlib.Core.Path.{_≡_, refl}
-use mathlib.Core.List.{List}
-use native.Mathlib.Numerals.{add-one}
-use lib.ListN.{set}
+-- A fill begins with no word, and grows by one word at its end.
+use Rattle.common.specs.Kit.{ℕ, _+_, _≡_, refl, List, set, add-one}
 use Rattle.pages.specs.Fill.{fill}
 
 pub fill-none : (q v : ℕ) (ws : List ℕ) → ws ≡ fill q v 0 ws

@@ -1,7 +1,5 @@
 -- Two patterns on a word, `Decoded` and then `PageInfo`: what the second binds, and what its `else` knows, as facts on what the word says.
--- Assumes nothing.
-use mathlib.Core.Path.{_≡_, refl, sym, _∙_, ap}
-use mathlib.Core.List.{[], _∷_}
+use Rattle.common.specs.Kit.{_≡_, refl, sym, ap, _∙_, [], _∷_}
 use types.Run.{OneOf, miss}
 use denote.Enum.Declared.{tagOf}
 use Rattle.words.specs.declared.word.FreeInfo.{FreeInfo}

@@ -1,7 +1,5 @@
 -- Writes over the words of a block.
-use Prim.Native.Nat.{ℕ, zero, suc, _+_, _-_, _^_, _≤_, _<_}
-use mathlib.Core.List.{List}
-use lib.ListN.{length, set}
+use Rattle.common.specs.Kit.{ℕ, zero, suc, _+_, _-_, _^_, _≤_, _<_, List, length, set}
 use Rattle.words.specs.Word.{memOf}
 use Rattle.pages.specs.Info.{freeInfo, compoundInfo}
 

@@ -1,5 +1,5 @@
 -- What a page is, by short names.
-use Prim.Native.Nat.{ℕ}
+use Rattle.common.specs.Kit.{ℕ}
 use Rattle.words.specs.declared.word.PageInfo.{PageInfo}
 use Rattle.words.specs.declared.word.PageInfo.the-variants.{Free, Allocated, Slab, Compound, File, Reserved}
 

@@ -1,7 +1,5 @@
 -- What the words say, page by page.
-use Prim.Native.Nat.{ℕ}
-use mathlib.Core.List.{List}
-use lib.ListN.{getD}
+use Rattle.common.specs.Kit.{ℕ, List, getD}
 use Rattle.words.specs.Word.{decodeOf, noPage}
 use Rattle.words.specs.declared.word.FreeInfo.{FreeInfo}
 use Rattle.words.specs.declared.word.FileInfo.{FileInfo}

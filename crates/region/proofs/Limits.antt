@@ -1,11 +1,6 @@
--- The page limit is at most 2^20: but for `pages_good`, which compares with it, no proof looks at the number. Assumes nothing.
-use Prim.Native.Nat.{ℕ, _≤_, _^_}
-use native.Mathlib.Omega.{arith}
-use mathlib.Core.Path.{_≡_}
-use mathlib.Core.Bool.{true, _&&_}
-use lib.Dec.{leb}
-use borrow.Author.Tests.{leb-true}
-use Rattle.ground.proofs.Tests.{and-true}
+-- The page limit is at most 2^20: but for `pages_good`, which compares with it, no proof looks at the number.
+use Rattle.common.specs.Kit.{ℕ, _^_, _≤_, _≡_, true, _&&_, leb, arith, leb-true}
+use Rattle.common.proofs.Tests.{and-true}
 use Rattle.region.specs.Layout.{maxPages}
 
 pub pages-small : (n : ℕ) → n ≤ maxPages → n ≤ 2 ^ 20

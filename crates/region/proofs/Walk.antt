@@ -1,12 +1,7 @@
--- The walk along a list, taken one step. Assumes nothing.
-use Prim.Native.Nat.{ℕ, zero, suc, _-_, _<_}
-use mathlib.Core.Path.{_≡_}
-use mathlib.Core.Bool.{cond}
-use mathlib.Core.List.{List}
+-- The walk along a list, taken one step.
+use Rattle.common.specs.Kit.{ℕ, zero, suc, _-_, _<_, _≡_, cond, List, eqb, length}
 use native.Mathlib.Nat.{lt-irrefl}
 use native.Mathlib.Numerals.{sub-one}
-use lib.Dec.{eqb}
-use lib.ListN.{length}
 use Rattle.words.specs.Word.{noPage}
 use Rattle.pages.specs.Said.{said, nextIn}
 use Rattle.region.specs.State.{pageBefore, WalkOk}

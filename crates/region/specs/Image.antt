@@ -1,10 +1,5 @@
 -- The heap that record and words show, and the record and words that show a heap. All three are total and compute.
-use Prim.Native.Nat.{ℕ, zero, suc, _+_, _≤_, _<_, _^_}
-use mathlib.Core.Path.{_≡_}
-use mathlib.Core.Bool.{cond}
-use mathlib.Core.List.{List, [], _∷_}
-use lib.Dec.{eqb, ltb}
-use lib.ListN.{length, getD}
+use Rattle.common.specs.Kit.{ℕ, zero, suc, _+_, _^_, _≤_, _<_, _≡_, cond, List, [], _∷_, eqb, ltb, length, getD}
 use Rattle.words.specs.Word.{noPage, memOf}
 use Rattle.words.specs.declared.word.PageInfo.{PageInfo}
 use Rattle.words.specs.declared.word.PageInfo.the-variants.{Free, Allocated, Slab, Compound, File, Reserved}

@@ -1,6 +1,5 @@
 -- The numbers of a region: document 01, "The region record" and the first line of its soundness.
-use Prim.Native.Nat.{ℕ, _+_, _*_, _/_, _%_, _^_, _-_, _≤_}
-use mathlib.Core.Path.{_≡_}
+use Rattle.common.specs.Kit.{ℕ, _+_, _-_, _*_, _/_, _%_, _^_, _≤_, _≡_}
 use Rattle.region.specs.declared.HeapMemoryRegion.{HeapMemoryRegion}
 
 -- "1 to 4,096 pages": the number stands here, and in the code's constant, which `pages_good` is proved to compare with it. Proofs use only that

@@ -1,9 +1,5 @@
 -- Pages a up to but not including e, with a word each: blocks, the tiling, free blocks, lists, buddies and counts, by what the words say.
-use Prim.Native.Nat.{ℕ, zero, suc, _+_, _%_, _^_, _-_, _≤_, _<_}
-use mathlib.Core.Path.{_≡_}
-use mathlib.Core.Bool.{Bool, cond}
-use mathlib.Core.List.{List, [], _∷_}
-use lib.Dec.{leb, eqb}
+use Rattle.common.specs.Kit.{ℕ, zero, suc, _+_, _-_, _%_, _^_, _≤_, _<_, _≡_, Bool, cond, List, [], _∷_, eqb, leb}
 use Rattle.words.specs.Word.{noPage}
 use Rattle.words.specs.declared.word.PageInfo.{PageInfo}
 use Rattle.words.specs.declared.word.PageInfo.the-variants.{Free, Allocated, Slab, Compound, File, Reserved}

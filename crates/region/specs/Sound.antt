@@ -1,8 +1,5 @@
 -- When record and words are sound: document 01, line by line.
-use Prim.Native.Nat.{ℕ, _<_}
-use mathlib.Core.Path.{_≡_}
-use mathlib.Core.List.{List}
-use lib.ListN.{length, getD}
+use Rattle.common.specs.Kit.{ℕ, _<_, _≡_, List, length, getD}
 use Rattle.pages.specs.Info.{allocatedInfo, reservedInfo}
 use Rattle.region.specs.Layout.{endOf, Limits}
 use Rattle.region.specs.Pages.{AllSay, Tiled, FreeList, NoBuddies, blocks, frees}

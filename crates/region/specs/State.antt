@@ -1,11 +1,6 @@
 -- A state, that is a record and its words, and the single steps on it, as the code makes them: lists, split and merge.
 -- Each has beside it what makes it safe: indexes in range and counts that do not pass their ends. No step speaks of soundness.
-use mathlib.Core.Path.{_≡_}
-use mathlib.Core.Bool.{Bool, true, false, cond}
-use mathlib.Core.List.{List}
-use Prim.Native.Nat.{ℕ, zero, suc, _+_, _-_, _^_, _<_, _≤_}
-use lib.Dec.{eqb, leb}
-use lib.ListN.{length, getD, set}
+use Rattle.common.specs.Kit.{ℕ, zero, suc, _+_, _-_, _^_, _≤_, _<_, _≡_, Bool, true, false, cond, List, eqb, leb, length, getD, set}
 use Rattle.words.specs.Word.{noPage, memOf}
 use Rattle.pages.specs.Info.{freeInfo, allocatedInfo}
 use Rattle.pages.specs.Said.{said, nextIn}

@@ -1,10 +1,5 @@
 -- The rules on a state, over the single steps, as the code makes them: free (5), refill and allocate (4). Each has beside it what makes it safe.
-use mathlib.Core.Path.{_≡_}
-use mathlib.Core.Bool.{Bool, true, false, cond}
-use mathlib.Core.List.{List}
-use Prim.Native.Nat.{ℕ, zero, suc, _+_, _-_, _%_, _^_, _<_, _≤_}
-use lib.Dec.{eqb, ltb}
-use lib.ListN.{length, getD, set}
+use Rattle.common.specs.Kit.{ℕ, zero, suc, _+_, _-_, _%_, _^_, _≤_, _<_, _≡_, Bool, true, false, cond, List, eqb, ltb, length, getD, set}
 use Rattle.words.specs.Word.{noPage, memOf}
 use Rattle.words.specs.declared.word.PageInfo.{PageInfo}
 use Rattle.pages.specs.Said.{said}

@@ -1,12 +1,6 @@
--- The buddy, the merge with it and the recursion up the orders, taken one step. Assumes nothing.
-use Prim.Native.Nat.{ℕ, suc, _+_, _-_, _≤_, _<_}
-use mathlib.Core.Path.{_≡_, refl, sym, _∙_}
-use mathlib.Core.Bool.{Bool, true, false, cond, true≢false}
-use native.Mathlib.Numerals.{add-one}
-use native.Mathlib.Omega.{arith}
-use lib.Dec.{eqb, ltb}
-use borrow.Author.Tests.{ne-eqb, ltb-true, ltb-false}
-use Rattle.ground.proofs.Tests.{by-test}
+-- The buddy, the merge with it and the recursion up the orders, taken one step.
+use Rattle.common.specs.Kit.{ℕ, suc, _+_, _-_, _≤_, _<_, _≡_, refl, sym, _∙_, Bool, true, false, cond, true≢false, eqb, ltb, add-one, arith, ne-eqb, ltb-true, ltb-false}
+use Rattle.common.proofs.Tests.{by-test}
 use Rattle.pages.specs.Said.{said}
 use Rattle.region.specs.Pages.{noOrder, freeOrder, buddyOf}
 use Rattle.region.specs.State.{State, st, Gives, lower, putHead, PutOk}

@@ -1,7 +1,7 @@
 // Document 01's test program: sets region R up in a part of a buffer of Reserved words, and prints the memory report.
 use heap::reads::memory_info;
 use heap::start::root_mem_init;
-use show::lines::report_lines;
+use text::lines::report_lines;
 use words::place::VirtAddr;
 
 fn main() {
@@ -14,5 +14,5 @@ fn main() {
     let free = report.free_pages;
     let mut out = io::buffer();
     let used = report_lines(&mut out, 0, total, free);
-    show::flush(&out, used);
+    text::flush(&out, used);
 }

@@ -1,15 +1,6 @@
--- Before any page is managed, record and words show the empty heap, whatever the words held before. Assumes nothing.
-use mathlib.Core.Path.{_≡_, refl, sym, ap, _∙_}
-use mathlib.Core.Logic.{by-cases}
-use mathlib.Core.Bool.{cond}
-use mathlib.Core.List.{List}
-use Prim.Native.Nat.{ℕ, _-_, _≤_, _<_}
-use native.Mathlib.Omega.{arith}
-use native.Mathlib.Decide.{decLt}
-use lib.Dec.{ltb}
-use lib.ListN.{length, getD, List·getD-eq-default}
-use lib.Seq.{set-getD, getD-set-same}
-use borrow.Author.Tests.{lt-ltb, le-ltb}
+-- Before any page is managed, record and words show the empty heap, whatever the words held before.
+use Rattle.common.specs.Kit.{ℕ, _-_, _≤_, _<_, _≡_, refl, sym, ap, _∙_, by-cases, cond, List, ltb, length, getD, List·getD-eq-default, getD-set-same, decLt, arith, lt-ltb, le-ltb}
+use lib.Seq.{set-getD}
 use Rattle.words.specs.Word.{memOf}
 use Rattle.words.specs.declared.place.VirtAddr.{VirtAddr}
 use Rattle.buddy.specs.Rules.{empty}
@@ -20,10 +11,10 @@ use Rattle.region.specs.Layout.{endOf, allocPages}
 use Rattle.region.specs.State.{st}
 use Rattle.region.specs.Image.{shown, table, regionOf, wordsOf, image}
 use Rattle.region.specs.declared.HeapMemoryRegion.{HeapMemoryRegion}
-use Rattle.image.specs.Fine.{Fine}
-use Rattle.image.proofs.Tables.{is-table}
-use Rattle.image.proofs.Changes.{table-fill}
-use Rattle.image.proofs.Shown.{shown-boot, shown-in, shown-meta, entry-off}
+use Rattle.refine.specs.Fine.{Fine}
+use Rattle.refine.proofs.Tables.{is-table}
+use Rattle.refine.proofs.Changes.{table-fill}
+use Rattle.refine.proofs.Shown.{shown-boot, shown-in, shown-meta, entry-off}
 use Rattle.setup.specs.Steps.{blank, bare}
 
 pub empty-fine : (r : HeapMemoryRegion) → Fine (empty .managed) r (empty .heap)

@@ -1,10 +1,7 @@
 -- Set-up by computation, on words that all were 7: the record that it leaves of region R and of small and odd regions, and that record and
--- words of R show what set-up leaves of the heap. These are results. Assumes nothing.
-use mathlib.Core.Path.{_≡_, refl}
-use mathlib.Core.List.{List, [], _∷_, map}
-use Prim.Native.Nat.{ℕ}
-use lib.ListN.{replicate}
-use Rattle.ground.specs.Numbers.{update, remove}
+-- words of R show what set-up leaves of the heap. These are results.
+use Rattle.common.specs.Kit.{ℕ, _≡_, refl, List, [], _∷_, map, replicate}
+use Rattle.common.specs.Numbers.{update, remove}
 use Rattle.words.specs.Word.{noPage, row as wordRow, decodeOf, memOf}
 use Rattle.words.specs.declared.place.VirtAddr.{VirtAddr}
 use Rattle.buddy.specs.Runs.{cell, first, buddy}

@@ -1,11 +1,5 @@
--- One step of set-up on the image of a heap: a run of the region that is not managed yet becomes a block, and is freed. Assumes nothing.
-use mathlib.Core.Path.{_≡_, refl}
-use mathlib.Core.Logic.{by-cases}
-use mathlib.Core.Bool.{Bool}
-use Prim.Native.Nat.{ℕ, _+_, _-_, _≤_}
-use native.Mathlib.Omega.{arith}
-use native.Mathlib.Decide.{ℕ-discrete}
-use lib.Dec.{T}
+-- One step of set-up on the image of a heap: a run of the region that is not managed yet becomes a block, and is freed.
+use Rattle.common.specs.Kit.{ℕ, _+_, _-_, _≤_, _≡_, refl, by-cases, Bool, T, ℕ-discrete, arith}
 use Rattle.buddy.specs.Runs.{cell, first}
 use Rattle.buddy.specs.Heap.{used, tag, Heap}
 use Rattle.buddy.specs.Steps.{withRun, add}
@@ -17,12 +11,12 @@ use Rattle.buddy.proofs.Clean.{add-clean}
 use Rattle.region.specs.Layout.{endOf}
 use Rattle.region.specs.Image.{image}
 use Rattle.region.specs.declared.HeapMemoryRegion.{HeapMemoryRegion}
-use Rattle.image.specs.Fine.{managed, Fine}
-use Rattle.image.proofs.Record.{blocks-image, region-blocks}
-use Rattle.image.proofs.Shown.{words-long}
-use Rattle.image.proofs.Words.{entry-same, words-run}
-use Rattle.image.proofs.Step.{Lent, Rule, run-below, blocks-small}
-use Rattle.image.proofs.Free.{free-image}
+use Rattle.refine.specs.Fine.{managed, Fine}
+use Rattle.refine.proofs.Record.{blocks-image, region-blocks}
+use Rattle.refine.proofs.Shown.{words-long}
+use Rattle.refine.proofs.Words.{entry-same, words-run}
+use Rattle.refine.proofs.Step.{Lent, Rule, run-below, blocks-small}
+use Rattle.refine.proofs.Free.{free-image}
 use Rattle.setup.specs.Steps.{addBlock, growBlock, GrowOk}
 
 -- a run of the region, of which no page is managed yet

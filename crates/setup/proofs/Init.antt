@@ -1,14 +1,6 @@
 -- Rule 7: set-up on words that held anything leaves the record and words that show what set-up leaves of the heap; every call on the way is
--- safe, and the result is sound. Assumes nothing.
-use mathlib.Core.Path.{_≡_, _∙_}
-use mathlib.Core.Logic.{by-cases}
-use mathlib.Core.List.{List}
-use Prim.Native.Nat.{ℕ, _+_, _-_, _*_, _/_, _≤_}
-use native.Mathlib.Nat.{le-refl}
-use native.Mathlib.Omega.{arith}
-use native.Mathlib.Decide.{decLt}
-use lib.ListN.{length}
-use borrow.Author.Tests.{lt-ltb, le-ltb}
+-- safe, and the result is sound.
+use Rattle.common.specs.Kit.{ℕ, _+_, _-_, _*_, _/_, _≤_, _≡_, _∙_, by-cases, List, length, le-refl, decLt, arith, lt-ltb, le-ltb}
 use Rattle.words.specs.declared.place.VirtAddr.{VirtAddr}
 use Rattle.buddy.specs.Runs.{cell, first}
 use Rattle.buddy.specs.Rules.{State, empty, growMany, setUpFrom, setUp, span}
@@ -18,10 +10,10 @@ use Rattle.region.specs.Layout.{endOf, allocPages, Limits}
 use Rattle.region.specs.Sound.{Sound}
 use Rattle.region.specs.Image.{image}
 use Rattle.region.specs.declared.HeapMemoryRegion.{HeapMemoryRegion}
-use Rattle.image.specs.Fine.{managed}
-use Rattle.image.proofs.Shown.{words-long}
-use Rattle.image.proofs.Step.{Lent, Rule}
-use Rattle.image.proofs.Fresh.{fresh, fresh-fine, fresh-sound}
+use Rattle.refine.specs.Fine.{managed}
+use Rattle.refine.proofs.Shown.{words-long}
+use Rattle.refine.proofs.Step.{Lent, Rule}
+use Rattle.refine.proofs.Fresh.{fresh, fresh-fine, fresh-sound}
 use Rattle.setup.specs.Steps.{bare, growFrom, GrowFromOk, growSpan, GrowSpanOk, initMemory, InitMemoryOk}
 use Rattle.setup.proofs.Blank.{empty-fine, blank-image}
 use Rattle.setup.proofs.Many.{Grown, many-image, pages-image}

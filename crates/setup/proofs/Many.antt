@@ -1,10 +1,5 @@
--- Steps of set-up in turn are steps of the heap in turn: runs of one order, ascending. Assumes nothing.
-use mathlib.Core.Path.{_≡_, refl}
-use mathlib.Core.Logic.{by-cases}
-use Prim.Native.Nat.{ℕ, zero, suc, _+_, _-_, _*_, _^_, _≤_, _<_}
-use native.Mathlib.Omega.{arith}
-use native.Mathlib.Decide.{ℕ-discrete}
-use lib.Dec.{T}
+-- Steps of set-up in turn are steps of the heap in turn: runs of one order, ascending.
+use Rattle.common.specs.Kit.{ℕ, zero, suc, _+_, _-_, _*_, _^_, _≤_, _<_, _≡_, refl, by-cases, T, ℕ-discrete, arith}
 use Rattle.buddy.specs.Runs.{cell, first}
 use Rattle.buddy.specs.Rules.{State, grow, growMany}
 use Rattle.buddy.proofs.RunLaws.{cell-zero}
@@ -13,8 +8,8 @@ use Rattle.buddy.proofs.SetUp.{growMany-managed}
 use Rattle.region.specs.Layout.{endOf}
 use Rattle.region.specs.Image.{image}
 use Rattle.region.specs.declared.HeapMemoryRegion.{HeapMemoryRegion}
-use Rattle.image.specs.Fine.{Fine}
-use Rattle.image.proofs.Step.{Lent, Rule}
+use Rattle.refine.specs.Fine.{Fine}
+use Rattle.refine.proofs.Step.{Lent, Rule}
 use Rattle.setup.specs.Steps.{growBlocks, GrowBlocksOk}
 use Rattle.setup.proofs.Grow.{NewIn, grow-image}
 

@@ -1,7 +1,5 @@
--- Blocks made in turn: none at first, then one more at each turn, which is safe. For the loop of `grow_blocks`. Assumes nothing.
-use mathlib.Core.Path.{_≡_, refl}
-use Prim.Native.Nat.{ℕ, _+_, _*_, _^_, _<_}
-use native.Mathlib.Numerals.{add-one}
+-- Blocks made in turn: none at first, then one more at each turn, which is safe. For the loop of `grow_blocks`.
+use Rattle.common.specs.Kit.{ℕ, _+_, _*_, _^_, _<_, _≡_, refl, add-one}
 use Rattle.region.specs.State.{State}
 use Rattle.setup.specs.Steps.{growBlock, GrowOk, growBlocks, GrowBlocksOk}
 

@@ -1,9 +1,5 @@
 -- Set-up on a state, as the code makes it: document 01, rule 7. Each step has beside it what makes it safe.
-use Prim.Native.Nat.{ℕ, zero, suc, _+_, _-_, _*_, _/_, _^_, _≤_, _<_}
-use mathlib.Core.Bool.{cond}
-use mathlib.Core.List.{List}
-use lib.Dec.{ltb}
-use lib.ListN.{length, replicate, set}
+use Rattle.common.specs.Kit.{ℕ, zero, suc, _+_, _-_, _*_, _/_, _^_, _≤_, _<_, cond, List, ltb, length, set, replicate}
 use Rattle.words.specs.Word.{noPage, memOf}
 use Rattle.words.specs.declared.place.VirtAddr.{VirtAddr}
 use Rattle.pages.specs.Info.{allocatedInfo, reservedInfo}

@@ -1,11 +1,5 @@
--- What the arms of a match on a number say of the number: that it is one of the arm's keys, or none of them. Assumes nothing.
-use Prim.Native.Nat.{ℕ}
-use mathlib.Core.Path.{_≡_, sym, subst}
-use mathlib.Core.Logic.{inl, inr}
-use mathlib.Core.Bool.{false}
-use mathlib.Core.List.{List, [], _∷_}
-use lib.Dec.{eqb}
-use borrow.Author.Tests.{ne-eqb}
+-- What the arms of a match on a number say of the number: that it is one of the arm's keys, or none of them.
+use Rattle.common.specs.Kit.{ℕ, _≡_, sym, subst, inl, inr, false, List, [], _∷_, eqb, ne-eqb}
 use types.Run.{OneOf}
 
 abbrev pub Each : (ℕ → Type 0) → List ℕ → Type 0

@@ -1,23 +1,19 @@
 -- What each request does to the record and the lent words, and what it answers (README.md, "The shell"): a request for a call of the heap does
 -- what the heap promises of that call, and its answer is the call's, as a line. How an answer is written as text is not said here.
-use Prim.Native.Nat.{ℕ}
-use mathlib.Core.Bool.{Bool, false, cond, _||_}
-use mathlib.Core.List.{List, [], _∷_}
-use lib.Dec.{eqb, ltb, leb}
-use lib.ListN.{length, getD, set}
+use Rattle.common.specs.Kit.{ℕ, Bool, false, cond, _||_, List, [], _∷_, eqb, leb, ltb, length, getD, set}
 use Rattle.words.specs.Word.{decodeOf}
 use Rattle.words.specs.Order.{orderOf}
 use Rattle.region.specs.declared.HeapMemoryRegion.{HeapMemoryRegion}
-use Rattle.calls.specs.Told.{Told, ok, Result}
+use Rattle.sound_calls.specs.Told.{Told, ok, Result}
 use Rattle.heap.specs.Fields.{encodeFields}
 use Rattle.heap.specs.Promise.{emptyRegion, setUpPromise, allocatePromise, filePromise, slabPromise, freePromise, getPromise, putPromise, lookupPromise, auditPromise}
-use Rattle.ask.specs.declared.input.Request.{Request}
-use Rattle.show.specs.Line.{line}
-use Rattle.show.specs.declared.answer.Line.{Line}
-use Rattle.show.specs.declared.answer.Word.{Word}
-use Rattle.show.specs.declared.answer.Value.{Value}
-use Rattle.reply.specs.Answer.{lineOf, decodedLine, encodedLine}
-use Rattle.ask.specs.Names as Name
+use Rattle.parse.specs.declared.input.Request.{Request}
+use Rattle.text.specs.Line.{line}
+use Rattle.text.specs.declared.answer.Line.{Line}
+use Rattle.text.specs.declared.answer.Word.{Word}
+use Rattle.text.specs.declared.answer.Value.{Value}
+use Rattle.answers.specs.Answer.{lineOf, decodedLine, encodedLine}
+use Rattle.parse.specs.Names as Name
 use Rattle.shell.specs.declared.steps.Answer.{Answer}
 use Rattle.shell.specs.declared.steps.Step.{Step}
 

@@ -1,11 +1,8 @@
 -- The shell from line to line: the record, and the buffer, of which the first words are lent. After a line they are those that its request leaves.
-use Prim.Native.Nat.{ℕ, min}
-use mathlib.Core.Bool.{cond}
-use mathlib.Core.List.{List, _++_}
-use lib.Dec.{leb}
-use lib.ListN.{length, take, drop, replicate}
+use Rattle.common.specs.Kit.{ℕ, cond, List, _++_, leb, length, take, drop, replicate}
+use Prim.Native.Nat.{min}
 use Rattle.region.specs.declared.HeapMemoryRegion.{HeapMemoryRegion}
-use Rattle.ask.specs.Line.{parsed}
+use Rattle.parse.specs.Line.{parsed}
 use Rattle.shell.specs.Request.{acted}
 use Rattle.shell.specs.declared.steps.Answer.{Answer}
 use Rattle.shell.specs.declared.steps.Answer.the-variants.{Line, Lent, Text}

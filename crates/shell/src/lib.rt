@@ -10,13 +10,13 @@ ghost use Rattle.shell.specs.Shell.{held, settled, answered};
 use crate::requests::act;
 use crate::steps::Answer;
 use crate::steps::Step;
-use ask::input::parse;
+use answers::texts::write_text;
 use heap::start::empty_region;
+use parse::input::parse;
 use region::HeapMemoryRegion;
-use reply::texts::write_text;
-use show::answer::Word;
-use show::answer::bare;
-use show::answer::write;
+use text::answer::Word;
+use text::answer::bare;
+use text::answer::write;
 
 mod record;
 mod requests;

@@ -2,15 +2,15 @@
 ghost use mathlib.Core.Path.{_≡_};
 ghost use mathlib.Core.List.{List};
 ghost use Prim.Native.Nat.{ℕ, _<_};
-ghost use Rattle.ask.specs.Names as Name;
+ghost use Rattle.parse.specs.Names as Name;
 ghost use Rattle.shell.specs.Request.{did, hasField, withField, withThree};
 use crate::steps::Step;
 use crate::steps::said;
-use ask::names;
+use answers::lines::bad;
+use parse::names;
 use region::HeapMemoryRegion;
-use reply::answers::bad;
-use show::answer::Word;
-use show::answer::bare;
+use text::answer::Word;
+use text::answer::bare;
 use words::place::VirtAddr;
 use words::word::MAX_ORDER;
 

@@ -1,16 +1,16 @@
 // What a request comes to: the record after it, and the answer.
 ghost use mathlib.Core.Path.{_≡_};
-ghost use Rattle.calls.specs.Told.{done, grant, count};
-ghost use Rattle.reply.specs.Answer.{lineOf};
+ghost use Rattle.sound_calls.specs.Told.{done, grant, count};
+ghost use Rattle.answers.specs.Answer.{lineOf};
 ghost use Rattle.shell.specs.Request.{step};
-use calls::Counted;
-use calls::Finished;
-use calls::Granted;
+use answers::lines::of_count;
+use answers::lines::of_done;
+use answers::lines::of_grant;
 use region::HeapMemoryRegion;
-use reply::answers::of_count;
-use reply::answers::of_done;
-use reply::answers::of_grant;
-use show::answer::Line;
+use sound_calls::Counted;
+use sound_calls::Finished;
+use sound_calls::Granted;
+use text::answer::Line;
 
 pub enum Answer {
     Line(Line),

@@ -1,13 +1,6 @@
 -- Blocks of a tiling do not overlap, be they free or out. Upstream has this from permissions to memory; here one tag to a page is enough.
--- These are results. Assumes nothing.
-use mathlib.Core.Path.{_≡_, refl, sym, _∙_}
-use mathlib.Core.Logic.{_≢_, _⊎_, inl, inr, by-cases}
-use mathlib.Core.Bool.{Bool}
-use mathlib.Core.List.{List·Memᴰ}
-use Prim.Native.Nat.{ℕ, _+_, _^_, _≤_, _<_}
-use native.Mathlib.Omega.{arith}
-use native.Mathlib.Decide.{decLe}
-use lib.Dec.{T}
+-- These are results.
+use Rattle.common.specs.Kit.{ℕ, _+_, _^_, _≤_, _<_, _≡_, refl, sym, _∙_, _≢_, _⊎_, inl, inr, by-cases, Bool, List·Memᴰ, T, decLe, arith}
 use Rattle.buddy.specs.Runs.{cell, Head}
 use Rattle.buddy.specs.Heap.{Tag, Tiled, Heap, Core}
 use Rattle.buddy.proofs.RunLaws.{cell-between, head-unique}

@@ -1,19 +1,13 @@
 -- Sets of pages in parts. The pages of two parts add up, and so do their blocks of each order, counted at their heads; the pages of one block
 -- are as many as its size, and it counts once, at its order. So a run that is added brings its pages and one block, and one that is taken out
--- takes them with it. These are results. Assumes nothing.
-use mathlib.Core.Path.{_≡_, refl, sym, _∙_}
-use mathlib.Core.Logic.{_≢_, by-cases}
-use mathlib.Core.Bool.{Bool, true, false, not, _&&_, _||_, and-or-distrib-right}
-use Prim.Native.Nat.{ℕ, zero, suc, _+_, _*_, _^_, _≤_, _<_}
-use native.Mathlib.Omega.{arith}
-use native.Mathlib.Decide.{ℕ-discrete}
-use native.Mathlib.Numerals.{add-one}
-use lib.Dec.{T, eqb, eqb→eq, T-not}
-use borrow.Author.Tests.{eqb-true, eq-eqb, ne-eqb}
-use Rattle.ground.specs.Numbers.{one, count}
-use Rattle.ground.proofs.Tests.{by-test, by-two, T-true, T-and}
-use Rattle.ground.proofs.Lists.{update-same, update-other}
-use Rattle.ground.proofs.Counts.{count-same, no-count, count-one, count-parts}
+-- takes them with it. These are results.
+use Rattle.common.specs.Kit.{ℕ, zero, suc, _+_, _*_, _^_, _≤_, _<_, _≡_, refl, sym, _∙_, _≢_, by-cases, Bool, true, false, not, _&&_, _||_, T, eqb, eqb→eq, add-one, ℕ-discrete, arith, eq-eqb, ne-eqb, eqb-true}
+use mathlib.Core.Bool.{and-or-distrib-right}
+use lib.Dec.{T-not}
+use Rattle.common.specs.Numbers.{one, count}
+use Rattle.common.proofs.Tests.{by-test, by-two, T-true, T-and}
+use Rattle.common.proofs.Lists.{update-same, update-other}
+use Rattle.common.proofs.Counts.{count-same, no-count, count-one, count-parts}
 use Rattle.buddy.specs.Runs.{cell, first}
 use Rattle.buddy.specs.Heap.{used, Tag, tag, Tiled, heads, Heap}
 use Rattle.buddy.specs.Steps.{withRun, add}
@@ -22,7 +16,7 @@ use Rattle.buddy.proofs.Tags.{order-of}
 use Rattle.buddy.proofs.Paint.{paint-in, paint-out, Cut}
 use Rattle.buddy.proofs.Blocks.{heads-yes, heads-no}
 use Rattle.buddy.proofs.Add.{New}
-use Rattle.image.proofs.Halves.{high-page}
+use Rattle.refine.proofs.Halves.{high-page}
 
 -- the pages of S are those of A and of B, which have none in common
 pub record Parts (A B S : ℕ → Bool) : Type 0 where

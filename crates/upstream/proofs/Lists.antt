@@ -1,14 +1,8 @@
 -- What the list steps do to the lists: the head is taken and the rest stays; a block that is not found leaves everything.
--- These are results. Assumes nothing.
-use mathlib.Core.Path.{_≡_, refl, _∙_}
-use mathlib.Core.Logic.{_≢_}
-use mathlib.Core.Bool.{Bool, true, false, true≢false}
-use mathlib.Core.List.{List, _∷_, List·Memᴰ·head}
-use Prim.Native.Nat.{ℕ, _+_, _≤_}
-use native.Mathlib.Omega.{arith}
-use lib.Dec.{eqb}
-use Rattle.ground.proofs.Tests.{by-test}
-use Rattle.ground.proofs.Lists.{update-same, update-other, remove-same}
+-- These are results.
+use Rattle.common.specs.Kit.{ℕ, _+_, _≤_, _≡_, refl, _∙_, _≢_, Bool, true, false, true≢false, List, _∷_, List·Memᴰ·head, eqb, arith}
+use Rattle.common.proofs.Tests.{by-test}
+use Rattle.common.proofs.Lists.{update-same, update-other, remove-same}
 use Rattle.words.specs.Word.{noPage}
 use Rattle.buddy.specs.Runs.{cell}
 use Rattle.buddy.specs.Heap.{Heap}
@@ -18,11 +12,11 @@ use Rattle.region.specs.Image.{image}
 use Rattle.region.specs.declared.HeapMemoryRegion.{HeapMemoryRegion}
 use Rattle.region.specs.declared.lists.Found.{Found}
 use Rattle.region.specs.declared.lists.Found.the-variants.{At, Nothing}
-use Rattle.image.specs.Fine.{Fits}
-use Rattle.image.proofs.Step.{Lent}
-use Rattle.image.proofs.Record.{frees-image}
-use Rattle.image.proofs.Listed.{list-free}
-use Rattle.image.proofs.Take.{Takes, take-image}
+use Rattle.refine.specs.Fine.{Fits}
+use Rattle.refine.proofs.Step.{Lent}
+use Rattle.refine.proofs.Record.{frees-image}
+use Rattle.refine.proofs.Listed.{list-free}
+use Rattle.refine.proofs.Take.{Takes, take-image}
 
 -- get_next_page on a list with head p and the rest ps
 pub record Popped (r : HeapMemoryRegion) (h : Heap) (o p : ℕ) (ps : List ℕ) : Type 0 where

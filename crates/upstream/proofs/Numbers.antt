@@ -1,20 +1,14 @@
 -- The numbers of pages and blocks: metadata pages, the halves of a block, and the buddy, which upstream finds by turning a bit over.
--- These are results. Assumes nothing.
-use mathlib.Core.Path.{_≡_, sym, _∙_}
-use mathlib.Core.Logic.{_⊎_, inl, inr, by-cases}
-use Prim.Native.Nat.{ℕ, suc, _+_, _*_, _/_, _%_, _^_, _≤_, _<_}
-use native.Mathlib.Numerals.{add-one}
-use native.Mathlib.Nat.{one-mul, add-zero}
-use native.Mathlib.Omega.{arith}
-use native.Mathlib.Decide.{ℕ-discrete}
+-- These are results.
+use Rattle.common.specs.Kit.{ℕ, suc, _+_, _*_, _/_, _%_, _^_, _≤_, _<_, _≡_, sym, _∙_, _⊎_, inl, inr, by-cases, pow-pos, add-zero, add-one, ℕ-discrete, arith}
+use native.Mathlib.Nat.{one-mul}
 use lib.Bits.{bitXor, xor-step, xor-zero-r, xor-self, xor-block}
-use lib.Pow.{pow-pos}
 use Rattle.buddy.specs.Runs.{cell, first, buddy}
 use Rattle.buddy.proofs.RunLaws.{first-suc, head-first, buddy-even, buddy-odd, buddy-half, buddy-not}
 use Rattle.region.specs.Layout.{metaPages}
 use Rattle.region.specs.Pages.{buddyOf}
-use Rattle.image.proofs.Buddies.{buddy-page, head-mod, mod-head}
-use Rattle.image.proofs.Halves.{high-page}
+use Rattle.refine.proofs.Buddies.{buddy-page, head-mod, mod-head}
+use Rattle.refine.proofs.Halves.{high-page}
 
 -- as many as there are 512 pages, or one more
 pub meta-pages : (n : ℕ) → ((metaPages n ≡ n / 512) ⊎ (metaPages n ≡ 1 + n / 512)) × (0 < n → 0 < metaPages n)

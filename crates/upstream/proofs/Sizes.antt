@@ -1,20 +1,11 @@
 -- How many blocks there can be: with their sizes they fill no more than the managed pages, since every block ends inside them. Upstream's
--- bounds allow one block beyond the end. These are results. Assumes nothing.
-use mathlib.Core.Path.{_≡_, refl, sym}
-use mathlib.Core.Logic.{_≢_, by-cases}
-use mathlib.Core.Bool.{Bool, false}
-use mathlib.Core.List.{List, [], _∷_, List·Memᴰ, List·Memᴰ·head, List·Memᴰ·tail}
-use Prim.Native.Nat.{ℕ, zero, suc, _+_, _*_, _^_, _≤_, _<_}
+-- bounds allow one block beyond the end. These are results.
+use Rattle.common.specs.Kit.{ℕ, zero, suc, _+_, _*_, _^_, _≤_, _<_, _≡_, refl, sym, _≢_, by-cases, Bool, false, List, [], _∷_, List·Memᴰ, List·Memᴰ·head, List·Memᴰ·tail, T, length, pow-pos, pow-mono, ℕ-discrete, decLe, arith}
 use native.Mathlib.Nat.{mul-le-mul-left, mul-le-mul-right, le-mul-of-pos-right}
-use native.Mathlib.Omega.{arith}
-use native.Mathlib.Decide.{ℕ-discrete, decLe}
-use lib.Dec.{T}
-use lib.Pow.{pow-pos, pow-mono}
-use lib.ListN.{length}
-use Rattle.ground.specs.Numbers.{update, Once, one, count}
-use Rattle.ground.proofs.Tests.{T-true}
-use Rattle.ground.proofs.Lists.{update-same, update-other}
-use Rattle.ground.proofs.Counts.{no-count, count-at}
+use Rattle.common.specs.Numbers.{update, Once, one, count}
+use Rattle.common.proofs.Tests.{T-true}
+use Rattle.common.proofs.Lists.{update-same, update-other}
+use Rattle.common.proofs.Counts.{no-count, count-at}
 use Rattle.buddy.specs.Heap.{Heap, Core, heads}
 use Rattle.buddy.specs.Demand.{pagesIn}
 use Rattle.buddy.proofs.Tags.{order-of}

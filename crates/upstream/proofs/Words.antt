@@ -1,13 +1,8 @@
 -- Upstream packs a word by "or": the type's number, and each field masked and shifted up. Of fields that have a word that is the sum which
 -- document 01's table says. A word's type comes back whatever its fields, and no next page reads as none. These are results.
--- Assumes nothing.
-use mathlib.Core.Path.{_≡_, refl}
-use mathlib.Core.Bool.{true}
-use Prim.Native.Nat.{ℕ, _+_, _-_, _*_, _/_, _^_, _%_, _<_}
-use native.Mathlib.Omega.{arith}
+use Rattle.common.specs.Kit.{ℕ, _+_, _-_, _*_, _/_, _%_, _^_, _<_, _≡_, refl, true, arith, ltb-true}
 use lib.Bits.{bitAnd, bitOr, and-mask, or-shifted-r}
-use borrow.Author.Tests.{ltb-true}
-use Rattle.ground.proofs.Tests.{and-true}
+use Rattle.common.proofs.Tests.{and-true}
 use Rattle.words.specs.Word.{maxOrder, noNext, noPage, nextPage, nextField, typeIn, inTable, wordOf}
 use Rattle.words.specs.declared.word.PageInfo.{PageInfo}
 use Rattle.words.specs.declared.word.PageInfo.the-variants.{Free, Allocated, Slab, Compound, File, Reserved}

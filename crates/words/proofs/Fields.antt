@@ -1,11 +1,6 @@
--- Fields that are in the table: the next field of a page names that page, and their word fits 64 bits. Assumes nothing.
-use Prim.Native.Nat.{ℕ, _≤_, _<_, _^_}
-use native.Mathlib.Omega.{arith}
-use mathlib.Core.Path.{_≡_, refl, sym}
-use mathlib.Core.Bool.{true}
-use lib.Dec.{eqb}
-use borrow.Author.Tests.{ne-eqb, ltb-true, eqb-true}
-use Rattle.ground.proofs.Tests.{by-test, and-true}
+-- Fields that are in the table: the next field of a page names that page, and their word fits 64 bits.
+use Rattle.common.specs.Kit.{ℕ, _^_, _≤_, _<_, _≡_, refl, sym, true, eqb, arith, ne-eqb, eqb-true, ltb-true}
+use Rattle.common.proofs.Tests.{by-test, and-true}
 use Rattle.words.specs.Word.{maxOrder, noPage, noNext, nextPage, nextField, hasField, inTable, wordOf}
 use Rattle.words.specs.declared.word.PageInfo.{PageInfo}
 use Rattle.words.specs.declared.word.PageInfo.the-variants.{Free, Allocated, Slab, Compound, File, Reserved}

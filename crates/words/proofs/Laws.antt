@@ -1,13 +1,6 @@
 -- Words pack and unpack without loss, and one meaning has one word. The laws at the end are results.
--- Assumes nothing.
-use Prim.Native.Nat.{ℕ, _+_, _*_, _<_, _^_}
-use native.Mathlib.Omega.{arith}
-use mathlib.Core.Path.{_≡_, refl, ap, subst}
-use mathlib.Core.Bool.{true}
-use mathlib.Core.Logic.{_↔_}
-use lib.Dec.{eqb}
-use borrow.Author.Tests.{lt-ltb, ne-eqb, ltb-true, eqb-true, eqb-false}
-use Rattle.ground.proofs.Tests.{by-test, and-true}
+use Rattle.common.specs.Kit.{ℕ, _+_, _*_, _^_, _<_, _≡_, refl, ap, subst, _↔_, true, eqb, arith, ne-eqb, lt-ltb, eqb-true, eqb-false, ltb-true}
+use Rattle.common.proofs.Tests.{by-test, and-true}
 use Rattle.words.specs.Word.{maxOrder, noPage, noNext, nextField, typeIn, restIn, orderIn, aboveOrder, itemIn, aboveItem, row, decodeOf, inTable, wordOf, encodeOf, memOf}
 use Rattle.words.specs.declared.word.PageStorageType.{PageStorageType}
 use Rattle.words.specs.declared.word.PageInfo.{PageInfo}

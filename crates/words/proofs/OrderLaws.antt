@@ -1,15 +1,7 @@
 -- `orderOf` is the least order whose block holds the size, and there is one such order.
--- Assumes nothing.
-use Prim.Native.Nat.{ℕ, zero, suc, _+_, _*_, _^_, _≤_, _<_}
-use native.Mathlib.Omega.{arith}
-use native.Mathlib.Nat.{add-zero, pow-suc}
-use native.Mathlib.Numerals.{add-one}
-use mathlib.Core.Path.{_≡_, subst}
-use lib.Dec.{ltb, leb}
-use lib.Pow.{pow-mono}
-use borrow.Author.Tests.{leb-true, leb-false, ltb-true, ltb-false}
+use Rattle.common.specs.Kit.{ℕ, zero, suc, _+_, _*_, _^_, _≤_, _<_, _≡_, subst, leb, ltb, pow-mono, add-zero, pow-suc, add-one, arith, ltb-true, ltb-false, leb-true, leb-false}
 use borrow.Author.Count.{below-more}
-use Rattle.ground.proofs.Tests.{by-test}
+use Rattle.common.proofs.Tests.{by-test}
 use Rattle.words.specs.Order.{blockBytes, LeastOrder, orderFrom, orderOf}
 
 -- twice the bytes, one order up

@@ -1,11 +1,6 @@
 -- From a page to its address and back, and from an address that starts a page to the page and back. These are results.
--- Assumes nothing.
-use Prim.Native.Nat.{ℕ, _+_, _*_, _-_, _/_, _%_, _^_, _<_, _≤_}
-use native.Mathlib.Omega.{arith}
-use mathlib.Core.Path.{_≡_, refl, subst}
-use lib.Dec.{ltb, leb, eqb}
-use borrow.Author.Tests.{lt-ltb, le-ltb, lt-leb, ltb-false, leb-false, eqb-true}
-use Rattle.ground.proofs.Tests.{by-test}
+use Rattle.common.specs.Kit.{ℕ, _+_, _-_, _*_, _/_, _%_, _^_, _≤_, _<_, _≡_, refl, subst, eqb, leb, ltb, arith, lt-ltb, le-ltb, lt-leb, eqb-true, ltb-false, leb-false}
+use Rattle.common.proofs.Tests.{by-test}
 use Rattle.words.specs.Place.{pageAt, addressAt}
 use Rattle.words.specs.declared.place.PageNumber.{PageNumber}
 use Rattle.words.specs.declared.place.VirtAddr.{VirtAddr}

@@ -1,9 +1,6 @@
--- `decodeOf` row by row: what holds of the answer in each row holds of the answer. Assumes nothing.
-use Prim.Native.Nat.{ℕ, _<_}
-use mathlib.Core.Path.{_≡_}
-use lib.Dec.{ltb, eqb}
-use borrow.Author.Tests.{ltb-true, eqb-true}
-use Rattle.ground.proofs.Tests.{by-test}
+-- `decodeOf` row by row: what holds of the answer in each row holds of the answer.
+use Rattle.common.specs.Kit.{ℕ, _<_, _≡_, eqb, ltb, eqb-true, ltb-true}
+use Rattle.common.proofs.Tests.{by-test}
 use Rattle.words.specs.Word.{maxOrder, nextPage, typeIn, restIn, orderIn, aboveOrder, itemIn, aboveItem, row, decodeOf}
 use Rattle.words.specs.declared.word.PageInfo.{PageInfo}
 use Rattle.words.specs.declared.word.PageInfo.the-variants.{Free, Allocated, Slab, Compound, File, Reserved}

@@ -1,6 +1,5 @@
 -- The cases of document 01 that are marked (P), and the edges of `get_order`, in one table.
-use Prim.Native.Nat.{ℕ}
-use mathlib.Core.List.{List, [], _∷_}
+use Rattle.common.specs.Kit.{ℕ, List, [], _∷_}
 use Rattle.words.specs.Word.{decodeOf, encodeOf, noPage}
 use Rattle.words.specs.Order.{orderOf}
 use Rattle.words.specs.declared.word.PageInfo.{PageInfo}

@@ -1,7 +1,5 @@
 -- The order of a size in bytes: document 01, rule 1.
-use Prim.Native.Nat.{ℕ, zero, suc, _+_, _*_, _^_, _≤_, _<_}
-use mathlib.Core.Bool.{cond}
-use lib.Dec.{leb}
+use Rattle.common.specs.Kit.{ℕ, zero, suc, _+_, _*_, _^_, _≤_, _<_, cond, leb}
 
 -- the bytes of a block of order o
 abbrev pub blockBytes : ℕ → ℕ

@@ -1,7 +1,5 @@
 -- The pages of a region and their addresses: `pages` pages of 4,096 bytes from the address `start` on (document 01, refusal 7).
-use Prim.Native.Nat.{ℕ, _+_, _*_, _-_, _/_, _%_, _^_}
-use mathlib.Core.Bool.{cond}
-use lib.Dec.{ltb, leb, eqb}
+use Rattle.common.specs.Kit.{ℕ, _+_, _-_, _*_, _/_, _%_, _^_, cond, eqb, leb, ltb}
 use Rattle.words.specs.declared.place.PageAt.{PageAt}
 use Rattle.words.specs.declared.place.PageAt.the-variants.{Start, Within}
 use Rattle.words.specs.declared.place.AddressAt.{AddressAt}

@@ -1,7 +1,5 @@
 -- The word of a page: document 01, "Page words", its table row by row.
-use Prim.Native.Nat.{ℕ, _+_, _*_, _/_, _%_, _^_, _-_}
-use mathlib.Core.Bool.{Bool, true, cond, _&&_, _||_}
-use lib.Dec.{ltb, eqb}
+use Rattle.common.specs.Kit.{ℕ, _+_, _-_, _*_, _/_, _%_, _^_, Bool, true, cond, _&&_, _||_, eqb, ltb}
 use Rattle.words.specs.declared.word.PageInfo.{PageInfo}
 use Rattle.words.specs.declared.word.PageInfo.the-variants.{Free, Allocated, Slab, Compound, File, Reserved}
 use Rattle.words.specs.declared.word.Decoded.{Decoded}

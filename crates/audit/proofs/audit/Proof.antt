@@ -1,13 +1,10 @@
--- `audit::audit` meets its contract: the three groups of lines are all those of `soundB`. Assumes nothing.
-use borrow.Author.Needs.{needs}
+-- `audit::audit` meets its contract: the three groups of lines are all those of `soundB`.
+use Rattle.common.specs.Kit.{needs}
 use Rattle.audit.proofs.Loops.{failed, passed}
 use Rattle.audit.proofs.Order.{sound-order}
 use Rattle.audit.proofs.Sound.{decide-limits}
 use Rattle.audit.proofs.audit.Statement.{statement}
 use Rattle.audit.proofs.audit.Tie as tie
-
-numbers-good-requires : tie.Need-numbers-good-requires
-numbers-good-requires c κs = search needs
 
 returns : tie.Need-returns
 returns c = rw (sound-order, failed (c .before .numbers-good .ensures) (c .if1 .taken))
@@ -39,7 +36,7 @@ pub audit-spec : {M : Type 1} → statement M
 audit-spec =
     tie.close
     (tie.spec
-    numbers-good-requires
+    (λ c κs. search needs)
     returns
     marks-good-requires
     returns-2

@@ -1,6 +1,5 @@
--- `audit::marks_good` meets its contract: the tests are those of its two lines. Assumes nothing.
-use mathlib.Core.Bool.{and-true}
-use borrow.Author.Needs.{needs}
+-- `audit::marks_good` meets its contract: the tests are those of its two lines.
+use Rattle.common.specs.Kit.{and-true, needs}
 use Rattle.audit.specs.Check.{keeps}
 use Rattle.audit.proofs.Limit.{limits-few}
 use Rattle.audit.proofs.Loops.{failed, passed}
@@ -10,15 +9,9 @@ use Rattle.audit.proofs.marks_good.Tie as tie
 alloc-pages-requires : tie.Need-alloc-pages-requires
 alloc-pages-requires c κs = limits-few (c .before .pre)
 
-all-say-requires : tie.Need-all-say-requires
-all-say-requires c κs = search needs
-
 returns : tie.Need-returns
 unfolding keeps
 returns c = rw (failed (c .before .all-say .ensures) (c .if1 .taken))
-
-all-say-requires-2 : tie.Need-all-say-requires-2
-all-say-requires-2 c κs = search needs
 
 returns-2 : tie.Need-returns-2
 unfolding keeps
@@ -35,7 +28,7 @@ marks-good-spec =
     tie.close
     (tie.spec
     alloc-pages-requires
-    all-say-requires
+    (λ c κs. search needs)
     returns
-    all-say-requires-2
+    (λ c κs. search needs)
     returns-2)

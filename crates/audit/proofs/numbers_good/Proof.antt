@@ -1,12 +1,5 @@
--- `audit::numbers_good` meets its contract: the tests are those of the six lines. Assumes nothing.
-use Prim.Native.Nat.{_+_, _*_, _-_, _^_, _≤_, _<_}
-use native.Mathlib.Omega.{arith}
-use mathlib.Core.Path.{_≡_, sym, _∙_}
-use mathlib.Core.Bool.{true, _&&_, and-true}
-use lib.Dec.{leb}
-use lib.ListN.{length}
-use borrow.Author.Needs.{needs}
-use borrow.Author.Tests.{le-leb, lt-leb, eq-eqb, ne-eqb}
+-- `audit::numbers_good` meets its contract: the tests are those of the six lines.
+use Rattle.common.specs.Kit.{_+_, _-_, _*_, _^_, _≤_, _<_, _≡_, sym, _∙_, true, _&&_, and-true, leb, length, arith, needs, eq-eqb, ne-eqb, le-leb, lt-leb}
 use Rattle.region.specs.Layout.{maxPages}
 use Rattle.region.proofs.Limits.{good-small}
 use Rattle.audit.specs.Check.{keeps}
@@ -21,9 +14,6 @@ good c = passed (c .before .pages-good .ensures) (c .if1 .left)
 
 few : (c : tie.Else1) → c .before .before .before .args .region .«page_count» ≤ 2 ^ 20
 few c = good-small _ (good c)
-
-pages-good-requires : tie.Need-pages-good-requires
-pages-good-requires c κs = search needs
 
 returns : tie.Need-returns
 returns c = let a = c .before .before .before .args in
@@ -92,7 +82,7 @@ pub numbers-good-spec : {M : Type 1} → statement M
 numbers-good-spec =
     tie.close
     (tie.spec
-    pages-good-requires
+    (λ c κs. search needs)
     returns
     returns-2
     returns-3

@@ -1,7 +1,5 @@
--- `audit::stocks_good` meets its contract: the tests are those of its five lines, by what the walk found. Assumes nothing.
-use mathlib.Core.Path.{sym, _∙_}
-use borrow.Author.Needs.{needs}
-use borrow.Author.Tests.{not-true, not-false}
+-- `audit::stocks_good` meets its contract: the tests are those of its five lines, by what the walk found.
+use Rattle.common.specs.Kit.{sym, _∙_, needs, not-true, not-false}
 use Rattle.audit.proofs.Limit.{limits-few, limits-within}
 use Rattle.audit.proofs.Loops.{failed, passed}
 use Rattle.audit.proofs.Found.{found-bad, found-good}
@@ -19,9 +17,6 @@ returns c =
     let s = c .before .before in
     sym (found-bad (s .before .before .before .before .args .region) _ (s .before .alloc-pages .ensures) (s .survey .ensures) (not-true _ (c .if1 .taken)))
 
-same-requires : tie.Need-same-requires
-same-requires c κs = search needs
-
 returns-2 : tie.Need-returns-2
 returns-2 c =
     let g = c .before .before .before .before in
@@ -29,9 +24,6 @@ returns-2 c =
     sym
     (found-good (s .before .before .before .before .args .region) _ (s .before .alloc-pages .ensures) (s .survey .ensures) (not-false _ (g .if1 .left))
     ∙ rw (failed (c .before .same .ensures) (c .if2 .taken)))
-
-same-requires-2 : tie.Need-same-requires-2
-same-requires-2 c κs = search needs
 
 returns-3 : tie.Need-returns-3
 returns-3 c =
@@ -41,9 +33,6 @@ returns-3 c =
     sym
     (found-good (s .before .before .before .before .args .region) _ (s .before .alloc-pages .ensures) (s .survey .ensures) (not-false _ (g .if1 .left))
     ∙ rw (passed (t .before .same .ensures) (t .if2 .left), failed (c .before .same2 .ensures) (c .if3 .taken)))
-
-same-requires-3 : tie.Need-same-requires-3
-same-requires-3 c κs = search needs
 
 returns-4 : tie.Need-returns-4
 returns-4 c =
@@ -62,9 +51,9 @@ stocks-good-spec =
     alloc-pages-requires
     survey-requires
     returns
-    same-requires
+    (λ c κs. search needs)
     returns-2
-    same-requires-2
+    (λ c κs. search needs)
     returns-3
-    same-requires-3
+    (λ c κs. search needs)
     returns-4)

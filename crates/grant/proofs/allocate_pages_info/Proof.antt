@@ -1,19 +1,12 @@
--- `grant::allocate_pages_info` meets its contract: the page that is taken picks the case of `grant`. Assumes nothing.
-use mathlib.Core.Path.{refl, sym, _∙_}
-use borrow.Author.Needs.{needs}
+-- `grant::allocate_pages_info` meets its contract: the page that is taken picks the case of `grant`.
+use Rattle.common.specs.Kit.{refl, sym, _∙_, needs}
 use Rattle.region.specs.Steps.{grantPage, grant}
 use Rattle.grant.proofs.Steps.{taken-inside}
 use Rattle.grant.proofs.allocate_pages_info.Statement.{statement}
 use Rattle.grant.proofs.allocate_pages_info.Tie as tie
 
-refill-page-list-requires : tie.Need-refill-page-list-requires
-refill-page-list-requires c κs = search needs
-
 get-next-page-requires : tie.Need-get-next-page-requires
 get-next-page-requires c κs = rw (c .before .before .before .refill-page-list .ensures) (c .before .before .before .before .before .before .pre .take)
-
-enum-known-head : tie.Need-enum-known-head
-enum-known-head c = search needs
 
 write-page-info-requires : tie.Need-write-page-info-requires
 write-page-info-requires c κs =
@@ -21,12 +14,6 @@ write-page-info-requires c κs =
     let took = head .before .before .before .before .before in
     let some = sym (took .get-next-page .ensures .answers) ∙ head .head .given .1 in
     rw (took .get-next-page .kept .1 .0) (taken-inside (get-next-page-requires (took .before) κs) some)
-
-enum-told : tie.Need-enum-told
-enum-told c = search needs
-
-same-length : tie.Need-same-length
-same-length c = search needs
 
 returns : tie.Need-returns
 unfolding grantPage grant
@@ -36,9 +23,6 @@ returns c =
     let got = rw (took .before .before .before .before .refill-page-list .ensures) at (took .get-next-page .ensures) in
     simp (sym (got .answers) ∙ head .head .given .1)
     (record { answers = refl; leaves = rw (← got .leaves, c .before .before .write-page-info .ensures) })
-
-same-length-2 : tie.Need-same-length-2
-same-length-2 c = search needs
 
 returns-2 : tie.Need-returns-2
 unfolding grantPage grant
@@ -51,12 +35,12 @@ pub allocate-pages-info-spec : {M : Type 1} → statement M
 allocate-pages-info-spec =
     tie.close
     (tie.spec
-    refill-page-list-requires
+    (λ c κs. search needs)
     get-next-page-requires
-    enum-known-head
+    (λ c. search needs)
     write-page-info-requires
-    enum-told
-    same-length
+    (λ c. search needs)
+    (λ c. search needs)
     returns
-    same-length-2
+    (λ c. search needs)
     returns-2)

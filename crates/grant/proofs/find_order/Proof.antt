@@ -1,10 +1,6 @@
 -- `grant::find_order` meets its contract. The loop's invariant: the lowest list from `order` on is the lowest from `ord` on. The measure is
--- the orders left. Assumes nothing.
-use Prim.Native.Nat.{_-_, _≤_}
-use mathlib.Core.Path.{_≡_, refl, sym, _∙_}
-use native.Mathlib.Omega.{arith}
-use borrow.Author.Tests.{eq-eqb, ne-eqb}
-use borrow.Author.Needs.{needs}
+-- the orders left.
+use Rattle.common.specs.Kit.{_-_, _≤_, _≡_, refl, sym, _∙_, arith, needs, eq-eqb, ne-eqb}
 use Rattle.region.specs.Steps.{lowestFrom}
 use Rattle.grant.proofs.Steps.{lowest-step}
 use Rattle.grant.proofs.find_order.Statement.{statement}

@@ -1,10 +1,6 @@
 -- `grant::split_down` meets its contract. The loop's invariant: what is left to split, from `ord` on, gives the state that is asked for, and is
--- safe. The measure is the orders left. Assumes nothing.
-use Prim.Native.Nat.{_-_}
-use mathlib.Core.Path.{_≡_, refl, sym, _∙_}
-use native.Mathlib.Omega.{arith}
-use lib.ListN.{length}
-use borrow.Author.Needs.{needs}
+-- safe. The measure is the orders left.
+use Rattle.common.specs.Kit.{_-_, _≡_, refl, sym, _∙_, length, arith, needs}
 use Rattle.region.specs.State.{st}
 use Rattle.region.specs.Steps.{splitDown, DownOk}
 use Rattle.grant.proofs.Steps.{down-step, ok-step}

@@ -1,10 +1,5 @@
 -- `pages::fill_words` meets its contract. The loop's invariant: the words are filled up to `i`. The measure is what is left of `count`.
--- Assumes nothing.
-use Prim.Native.Nat.{_-_, _≤_}
-use mathlib.Core.Path.{_≡_, refl, _∙_}
-use native.Mathlib.Omega.{arith}
-use lib.ListN.{length, length-set}
-use borrow.Author.Needs.{needs}
+use Rattle.common.specs.Kit.{_-_, _≤_, _≡_, refl, _∙_, length, length-set, arith, needs}
 use Rattle.pages.specs.Fill.{fill}
 use Rattle.pages.proofs.Fill.{fill-none, fill-more}
 use Rattle.pages.proofs.fill_words.Statement.{statement}

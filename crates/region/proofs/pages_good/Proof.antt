@@ -1,6 +1,6 @@
 -- `region::pages_good` meets its contract: its tests are the first two lines of `Limits`. It alone knows that the code's limit is
--- the definition's. Assumes nothing.
-use borrow.Author.Tests.{le-leb, lt-leb}
+-- the definition's.
+use Rattle.common.specs.Kit.{le-leb, lt-leb}
 use Rattle.region.specs.Layout.{maxPages}
 use Rattle.region.proofs.pages_good.Statement.{statement}
 use Rattle.region.proofs.pages_good.Tie as tie

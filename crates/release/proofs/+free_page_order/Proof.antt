@@ -1,8 +1,5 @@
 -- `release::free_page_order` meets its contract: what trying leaves picks the step of `freeFrom`. The measure is 5 less the order.
--- Assumes nothing.
-use Prim.Native.Nat.{ℕ, _<_, _-_}
-use native.Mathlib.Omega.{arith}
-use borrow.Author.Needs.{needs}
+use Rattle.common.specs.Kit.{ℕ, _-_, _<_, arith, needs}
 use borrow.Fn.Kinds.{In}
 use borrow.Fn.PlainCycle.{Measures, is, falls, and}
 use Rattle.region.proofs.HeapMemoryRegion.free_page_raw.Reads as raw

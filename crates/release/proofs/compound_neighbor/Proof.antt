@@ -1,13 +1,6 @@
--- `release::compound_neighbor` meets its contract: the tests pick the case of `neighbor`. Assumes nothing.
-use Prim.Native.Nat.{ℕ, _+_, _*_, _^_}
-use mathlib.Core.Path.{_≡_, _∙_}
-use mathlib.Core.Logic.{⊎-elim}
+-- `release::compound_neighbor` meets its contract: the tests pick the case of `neighbor`.
+use Rattle.common.specs.Kit.{ℕ, _+_, _*_, _^_, _≡_, _∙_, ⊎-elim, pow-pos, pow-mono, add-one, arith, needs, eq-eqb, ne-eqb, lt-ltb, le-ltb}
 use native.Mathlib.Nat.{pow-succ'}
-use native.Mathlib.Numerals.{add-one}
-use native.Mathlib.Omega.{arith}
-use lib.Pow.{pow-pos, pow-mono}
-use borrow.Author.Tests.{eq-eqb, ne-eqb, lt-ltb, le-ltb}
-use borrow.Author.Needs.{needs}
 use Rattle.region.specs.Pages.{buddyOf}
 use Rattle.region.specs.Steps.{neighbor}
 use Rattle.release.proofs.compound_neighbor.Statement.{statement}
@@ -24,15 +17,9 @@ mate c =
     rw (pow-next (c .before .before .before .args .order), ← c .before .size .ensures)
     (⊎-elim (λ w. w .1 ∙ simp (eq-eqb _ _ (w .0 .taken))) (λ w. w .1 ∙ simp (ne-eqb _ _ (w .0 .left))) (c .if2 .came))
 
-sub-if1 : tie.Need-sub-if1
-sub-if1 c = search needs
-
 returns : tie.Need-returns
 unfolding neighbor
 returns c = simp (le-ltb _ _ (c .if1 .taken))
-
-size-requires : tie.Need-size-requires
-size-requires c κs = search needs
 
 mul-if2 : tie.Need-mul-if2
 mul-if2 c = omega (arith, c .size .ensures, pow-mono {i = c .before .before .args .order} {j = 5} (omega arith))
@@ -60,4 +47,4 @@ returns-3 c = rw (← mate (c .before)) (simp (lt-ltb _ _ (c .before .before .be
 pub compound-neighbor-spec : {M : Type 1} → statement M
 compound-neighbor-spec =
     tie.close
-    (tie.spec sub-if1 returns size-requires mul-if2 rem-if2 add-mate sub-mate returns-2 returns-3)
+    (tie.spec (λ c. search needs) returns (λ c κs. search needs) mul-if2 rem-if2 add-mate sub-mate returns-2 returns-3)

@@ -1,10 +1,6 @@
--- `release::try_to_merge_page` meets its contract: what is found at the buddy decides whether the two join. Assumes nothing.
-use mathlib.Core.Path.{_≡_, sym, _∙_, ap}
-use mathlib.Core.Bool.{true}
-use native.Mathlib.Omega.{arith}
+-- `release::try_to_merge_page` meets its contract: what is found at the buddy decides whether the two join.
+use Rattle.common.specs.Kit.{_≡_, sym, ap, _∙_, true, arith, needs, eq-eqb, ne-eqb}
 use denote.Ref.{now}
-use borrow.Author.Tests.{eq-eqb, ne-eqb}
-use borrow.Author.Needs.{needs}
 use Rattle.pages.specs.Said.{said}
 use Rattle.pages.proofs.Patterns.{through, other}
 use Rattle.region.specs.Pages.{noOrder, freeOrder}
@@ -46,40 +42,16 @@ joined :
     let a = start (second (third (c .before))) .args in joins (a .pfn) (a .order) (st (a .region) (now (a .words))) ≡ true
 joined c = joins-at _ _ _ _ (found (second (third (c .before)))) (tells (c .before)) ∙ eq-eqb _ _ (c .if1 .left)
 
-compound-neighbor-requires : tie.Need-compound-neighbor-requires
-compound-neighbor-requires c κs = search needs
-
-enum-known-neighbor-pfn : tie.Need-enum-known-neighbor-pfn
-enum-known-neighbor-pfn c = search needs
-
-enum-told : tie.Need-enum-told
-enum-told c = search needs
-
 returns : tie.Need-returns
 returns c = kept _ _ _ (joins-none _ _ _ (sym (c .before .before .compound-neighbor .ensures) ∙ c .enum-told .given .1))
 
 read-page-info-requires : tie.Need-read-page-info-requires
 read-page-info-requires c κs = omega (arith, mate (found (c .before)) .inside, start (c .before) .pre .words)
 
-enum-known-info : tie.Need-enum-known-info
-enum-known-info c = search needs
-
-enum-told-2 : tie.Need-enum-told-2
-enum-told-2 c = search needs
-
-same-length : tie.Need-same-length
-same-length c = search needs
-
 returns-2 : tie.Need-returns-2
 returns-2 c =
     let no = sym (c .before .before .read-page-info .ensures) ∙ c .enum-told2 .given .1 in
     kept _ _ _ (joins-other _ _ _ _ (found (c .before .before .before .before)) (ap freeOrder no))
-
-enum-known-info-2 : tie.Need-enum-known-info-2
-enum-known-info-2 c = search needs
-
-same-length-2 : tie.Need-same-length-2
-same-length-2 c = search needs
 
 returns-3 : tie.Need-returns-3
 returns-3 c =
@@ -87,9 +59,6 @@ returns-3 c =
     let told = sym (c .before .before .before .before .read-page-info .ensures) ∙ i .1 in
     kept _ _ _
     (joins-other _ _ _ _ (found (second (c .before))) (ap freeOrder told ∙ other (i .0 .0) noOrder .free _ (c .match3 .keys2)))
-
-same-length-3 : tie.Need-same-length-3
-same-length-3 c = search needs
 
 returns-4 : tie.Need-returns-4
 returns-4 c =
@@ -106,9 +75,6 @@ merge-pages-requires c κs =
     let found-at = second (third (same .before)) in
     rw (c .before .before .before .allocate-pfn .ensures .leaves, mate (found found-at) .is) (start found-at .pre .merged (joined same))
 
-same-length-4 : tie.Need-same-length-4
-same-length-4 c = search needs
-
 returns-5 : tie.Need-returns-5
 unfolding join
 returns-5 c =
@@ -123,21 +89,21 @@ pub try-to-merge-page-spec : {M : Type 1} → statement M
 try-to-merge-page-spec =
     tie.close
     (tie.spec
-    compound-neighbor-requires
-    enum-known-neighbor-pfn
-    enum-told
+    (λ c κs. search needs)
+    (λ c. search needs)
+    (λ c. search needs)
     returns
     read-page-info-requires
-    enum-known-info
-    enum-told-2
-    same-length
+    (λ c. search needs)
+    (λ c. search needs)
+    (λ c. search needs)
     returns-2
-    enum-known-info-2
-    same-length-2
+    (λ c. search needs)
+    (λ c. search needs)
     returns-3
-    same-length-3
+    (λ c. search needs)
     returns-4
     allocate-pfn-requires
     merge-pages-requires
-    same-length-4
+    (λ c. search needs)
     returns-5)

@@ -1,5 +1,5 @@
--- `setup::bare_region` meets its contract, by computation. Assumes nothing.
-use mathlib.Core.Path.{refl}
+-- `setup::bare_region` meets its contract, by computation.
+use Rattle.common.specs.Kit.{refl}
 use Rattle.setup.specs.Steps.{bare}
 use Rattle.setup.proofs.bare_region.Statement.{statement}
 use Rattle.setup.proofs.bare_region.Tie as tie

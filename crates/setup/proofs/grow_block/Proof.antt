@@ -1,28 +1,11 @@
--- `setup::grow_block` meets its contract: its calls one after the other. Assumes nothing.
-use native.Mathlib.Omega.{arith}
-use lib.Pow.{pow-pos}
-use borrow.Author.Needs.{needs}
+-- `setup::grow_block` meets its contract: its calls one after the other.
+use Rattle.common.specs.Kit.{pow-pos, arith, needs}
 use Rattle.setup.specs.Steps.{addBlock, growBlock}
 use Rattle.setup.proofs.grow_block.Statement.{statement}
 use Rattle.setup.proofs.grow_block.Tie as tie
 
 write-page-info-requires : tie.Need-write-page-info-requires
 write-page-info-requires c κs = omega (arith, pow-pos (c .before .before .args .order))
-
-mark-compound-page-requires : tie.Need-mark-compound-page-requires
-mark-compound-page-requires c κs = search needs
-
-mul-blocks : tie.Need-mul-blocks
-mul-blocks c = search needs
-
-element-copy-out-blocks : tie.Need-element-copy-out-blocks
-element-copy-out-blocks c = search needs
-
-add-with-blocks : tie.Need-add-with-blocks
-add-with-blocks c = search needs
-
-with-blocks-requires : tie.Need-with-blocks-requires
-with-blocks-requires c κs = search needs
 
 free-page-order-requires : tie.Need-free-page-order-requires
 unfolding addBlock
@@ -31,9 +14,6 @@ free-page-order-requires c κs =
     let wrote = marked .before .before .before .before in
     rw (c .before .with-blocks .ensures, marked .mark-compound-page .ensures, wrote .write-page-info .ensures)
     (wrote .before .before .before .pre .free)
-
-same-length : tie.Need-same-length
-same-length c = search needs
 
 returns : tie.Need-returns
 unfolding growBlock addBlock
@@ -52,11 +32,11 @@ grow-block-spec =
     tie.close
     (tie.spec
     write-page-info-requires
-    mark-compound-page-requires
-    mul-blocks
-    element-copy-out-blocks
-    add-with-blocks
-    with-blocks-requires
+    (λ c κs. search needs)
+    (λ c. search needs)
+    (λ c. search needs)
+    (λ c. search needs)
+    (λ c κs. search needs)
     free-page-order-requires
-    same-length
+    (λ c. search needs)
     returns)

@@ -1,10 +1,5 @@
 -- `setup::grow_blocks` meets its contract. The loop's invariant: `i` blocks are made. The measure is what is left of `count`.
--- Assumes nothing.
-use Prim.Native.Nat.{_-_, _≤_}
-use mathlib.Core.Path.{_≡_, refl}
-use native.Mathlib.Omega.{arith}
-use lib.ListN.{length}
-use borrow.Author.Needs.{needs}
+use Rattle.common.specs.Kit.{_-_, _≤_, _≡_, refl, length, arith, needs}
 use Rattle.region.specs.State.{st}
 use Rattle.setup.specs.Steps.{growBlocks}
 use Rattle.setup.proofs.Turns.{turns-none, turn-ok, turns-more}

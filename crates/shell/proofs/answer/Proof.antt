@@ -1,7 +1,6 @@
--- `shell::answer` meets its contract: `act` has the first words, and `finish` those that it left, before the others. Assumes nothing.
+-- `shell::answer` meets its contract: `act` has the first words, and `finish` those that it left, before the others.
 use native.Mathlib.Nat.{sub-zero}
-use borrow.Author.Needs.{needs}
-use borrow.Author.Tests.{le-leb, lt-leb}
+use Rattle.common.specs.Kit.{needs, le-leb, lt-leb}
 use Rattle.shell.specs.Shell.{answered}
 use Rattle.shell.proofs.answer.Statement.{statement}
 use Rattle.shell.proofs.answer.Tie as tie

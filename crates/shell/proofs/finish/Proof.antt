@@ -1,5 +1,5 @@
--- `shell::finish` meets its contract: the arm says which answer it is. Assumes nothing.
-use borrow.Author.Needs.{needs}
+-- `shell::finish` meets its contract: the arm says which answer it is.
+use Rattle.common.specs.Kit.{needs}
 use Rattle.shell.proofs.finish.Statement.{statement}
 use Rattle.shell.proofs.finish.Tie as tie
 

@@ -1,5 +1,5 @@
--- `shell::fresh` meets its contract: the record is the empty one. Assumes nothing.
-use borrow.Author.Needs.{needs}
+-- `shell::fresh` meets its contract: the record is the empty one.
+use Rattle.common.specs.Kit.{needs}
 use Rattle.shell.proofs.fresh.Statement.{statement}
 use Rattle.shell.proofs.fresh.Tie as tie
 

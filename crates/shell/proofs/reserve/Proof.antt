@@ -1,12 +1,6 @@
 -- `shell::reserve` meets its contract. The loop's invariant: the first i words are Reserved, and the others are as they were.
--- Assumes nothing.
-use Prim.Native.Nat.{_-_, _≤_}
-use native.Mathlib.Omega.{arith}
-use mathlib.Core.Path.{_≡_, refl}
-use mathlib.Core.List.{_++_}
-use lib.ListN.{length, drop, replicate, length-set}
+use Rattle.common.specs.Kit.{_-_, _≤_, _≡_, refl, _++_, length, drop, replicate, length-set, arith, needs}
 use borrow.Author.Fill.{fill-more}
-use borrow.Author.Needs.{needs}
 use Rattle.shell.proofs.reserve.Statement.{statement}
 use Rattle.shell.proofs.reserve.Tie as tie
 

@@ -1,25 +1,12 @@
--- `abi::reads::tingmudra_layout_from_ptr` meets its contract: the record's length picks the case of `lookupTold`. Assumes nothing.
-use borrow.Author.Needs.{needs}
-use borrow.Author.Tests.{eq-eqb, ne-eqb}
+-- `abi::reads::tingmudra_layout_from_ptr` meets its contract: the record's length picks the case of `lookupTold`.
+use Rattle.common.specs.Kit.{needs, eq-eqb, ne-eqb}
 use Rattle.abi.specs.Promise.{lookupTold}
 use Rattle.abi.proofs.reads.tingmudra_layout_from_ptr.Statement.{statement}
 use Rattle.abi.proofs.reads.tingmudra_layout_from_ptr.Tie as tie
 
-bad-buffer-requires : tie.Need-bad-buffer-requires
-bad-buffer-requires c κs = search needs
-
 returns : tie.Need-returns
 unfolding lookupTold
 returns c = simp (ne-eqb _ 21 (c .before .if1 .taken), c .bad-buffer .ensures)
-
-load-requires : tie.Need-load-requires
-load-requires c κs = search needs
-
-layout-from-ptr-requires : tie.Need-layout-from-ptr-requires
-layout-from-ptr-requires c κs = search needs
-
-of-layout-requires : tie.Need-of-layout-requires
-of-layout-requires c κs = search needs
 
 returns-2 : tie.Need-returns-2
 unfolding lookupTold
@@ -31,9 +18,9 @@ pub tingmudra-layout-from-ptr-spec : {M : Type 1} → statement M
 tingmudra-layout-from-ptr-spec =
     tie.close
     (tie.spec
-    bad-buffer-requires
+    (λ c κs. search needs)
     returns
-    load-requires
-    layout-from-ptr-requires
-    of-layout-requires
+    (λ c κs. search needs)
+    (λ c κs. search needs)
+    (λ c κs. search needs)
     returns-2)

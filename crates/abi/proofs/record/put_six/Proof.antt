@@ -1,12 +1,7 @@
--- `abi::record::put_six` meets its contract. The loop's invariant: the first `i` of the six are pasted in. Assumes nothing.
-use Prim.Native.Nat.{_+_, _-_, _≤_}
-use mathlib.Core.Path.{_≡_, refl, _∙_}
+-- `abi::record::put_six` meets its contract. The loop's invariant: the first `i` of the six are pasted in.
+use Rattle.common.specs.Kit.{_+_, _-_, _≤_, _≡_, refl, _∙_, length, take, drop, length-set, take-all, add-one, arith, needs}
 use mathlib.Core.List.{append-assoc}
-use native.Mathlib.Numerals.{add-one}
-use native.Mathlib.Omega.{arith}
-use lib.ListN.{length, take, drop, length-set}
-use lib.Seq.{paste, paste-zero, paste-suc, take-all}
-use borrow.Author.Needs.{needs}
+use lib.Seq.{paste, paste-zero, paste-suc}
 use Rattle.abi.specs.Record.{withSix}
 use Rattle.abi.proofs.record.put_six.Statement.{statement}
 use Rattle.abi.proofs.record.put_six.Tie as tie

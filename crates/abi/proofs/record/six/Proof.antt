@@ -1,13 +1,7 @@
--- `abi::record::six` meets its contract. The loop's invariant: the first `i` numbers are those from the place on. Assumes nothing.
-use Prim.Native.Nat.{_-_, _≤_, _<_}
-use mathlib.Core.Path.{_≡_, refl, _∙_}
-use mathlib.Core.List.{_++_, append-nil}
-use native.Mathlib.Nat.{zero-add}
-use native.Mathlib.Numerals.{add-one}
-use native.Mathlib.Omega.{arith}
-use lib.ListN.{length, length-set, length-drop, take, drop, replicate}
+-- `abi::record::six` meets its contract. The loop's invariant: the first `i` numbers are those from the place on.
+use Rattle.common.specs.Kit.{_-_, _≤_, _<_, _≡_, refl, _∙_, _++_, length, take, drop, replicate, length-set, length-drop, zero-add, add-one, arith, needs}
+use mathlib.Core.List.{append-nil}
 use lib.Seq.{paste-suc, getD-drop}
-use borrow.Author.Needs.{needs}
 use Rattle.abi.specs.Record.{sixFrom}
 use Rattle.abi.proofs.record.six.Statement.{statement}
 use Rattle.abi.proofs.record.six.Tie as tie

@@ -1,22 +1,8 @@
--- `abi::record::store` meets its contract: the parts are written from the end on, and then the first three numbers. Assumes nothing.
-use native.Mathlib.Omega.{arith}
-use lib.ListN.{length-set}
-use borrow.Author.Needs.{needs}
+-- `abi::record::store` meets its contract: the parts are written from the end on, and then the first three numbers.
+use Rattle.common.specs.Kit.{length-set, arith, needs}
 use Rattle.abi.proofs.Packed.{stored}
 use Rattle.abi.proofs.record.store.Statement.{statement}
 use Rattle.abi.proofs.record.store.Tie as tie
-
-put-six-requires : tie.Need-put-six-requires
-put-six-requires c κs = search needs
-
-put-six-requires-2 : tie.Need-put-six-requires-2
-put-six-requires-2 c κs = search needs
-
-put-six-requires-3 : tie.Need-put-six-requires-3
-put-six-requires-3 c κs = search needs
-
-slice-write-numbers : tie.Need-slice-write-numbers
-slice-write-numbers c = search needs
 
 slice-write-numbers-2 : tie.Need-slice-write-numbers-2
 slice-write-numbers-2 c = simp length-set (omega arith)
@@ -39,10 +25,10 @@ pub store-spec : {M : Type 1} → statement M
 store-spec =
     tie.close
     (tie.spec
-    put-six-requires
-    put-six-requires-2
-    put-six-requires-3
-    slice-write-numbers
+    (λ c κs. search needs)
+    (λ c κs. search needs)
+    (λ c κs. search needs)
+    (λ c. search needs)
     slice-write-numbers-2
     slice-write-numbers-3
     same-length

@@ -1,31 +1,12 @@
--- `abi::requests::tingmudra_allocate_file_page` meets its contract: the record's length picks the case of `fileLeft`. Assumes nothing.
-use borrow.Author.Needs.{needs}
-use borrow.Author.Tests.{eq-eqb, ne-eqb}
+-- `abi::requests::tingmudra_allocate_file_page` meets its contract: the record's length picks the case of `fileLeft`.
+use Rattle.common.specs.Kit.{needs, eq-eqb, ne-eqb}
 use Rattle.abi.specs.Promise.{fileLeft}
 use Rattle.abi.proofs.requests.tingmudra_allocate_file_page.Statement.{statement}
 use Rattle.abi.proofs.requests.tingmudra_allocate_file_page.Tie as tie
 
-bad-buffer-requires : tie.Need-bad-buffer-requires
-bad-buffer-requires c κs = search needs
-
 returns : tie.Need-returns
 unfolding fileLeft
 returns c = simp (ne-eqb _ 21 (c .before .if1 .taken), c .bad-buffer .ensures)
-
-load-requires : tie.Need-load-requires
-load-requires c κs = search needs
-
-allocate-file-page-requires : tie.Need-allocate-file-page-requires
-allocate-file-page-requires c κs = search needs
-
-granted-requires : tie.Need-granted-requires
-granted-requires c κs = search needs
-
-same-length : tie.Need-same-length
-same-length c = search needs
-
-same-length-2 : tie.Need-same-length-2
-same-length-2 c = search needs
 
 returns-2 : tie.Need-returns-2
 unfolding fileLeft
@@ -39,11 +20,11 @@ pub tingmudra-allocate-file-page-spec : {M : Type 1} → statement M
 tingmudra-allocate-file-page-spec =
     tie.close
     (tie.spec
-    bad-buffer-requires
+    (λ c κs. search needs)
     returns
-    load-requires
-    allocate-file-page-requires
-    granted-requires
-    same-length
-    same-length-2
+    (λ c κs. search needs)
+    (λ c κs. search needs)
+    (λ c κs. search needs)
+    (λ c. search needs)
+    (λ c. search needs)
     returns-2)

@@ -1,31 +1,12 @@
--- `abi::requests::tingmudra_free_page` meets its contract: the record's length picks the case of `freeLeft`. Assumes nothing.
-use borrow.Author.Needs.{needs}
-use borrow.Author.Tests.{eq-eqb, ne-eqb}
+-- `abi::requests::tingmudra_free_page` meets its contract: the record's length picks the case of `freeLeft`.
+use Rattle.common.specs.Kit.{needs, eq-eqb, ne-eqb}
 use Rattle.abi.specs.Promise.{freeLeft}
 use Rattle.abi.proofs.requests.tingmudra_free_page.Statement.{statement}
 use Rattle.abi.proofs.requests.tingmudra_free_page.Tie as tie
 
-bad-buffer-requires : tie.Need-bad-buffer-requires
-bad-buffer-requires c κs = search needs
-
 returns : tie.Need-returns
 unfolding freeLeft
 returns c = simp (ne-eqb _ 21 (c .before .if1 .taken), c .bad-buffer .ensures)
-
-load-requires : tie.Need-load-requires
-load-requires c κs = search needs
-
-free-page-requires : tie.Need-free-page-requires
-free-page-requires c κs = search needs
-
-finished-requires : tie.Need-finished-requires
-finished-requires c κs = search needs
-
-same-length : tie.Need-same-length
-same-length c = search needs
-
-same-length-2 : tie.Need-same-length-2
-same-length-2 c = search needs
 
 returns-2 : tie.Need-returns-2
 unfolding freeLeft
@@ -39,11 +20,11 @@ pub tingmudra-free-page-spec : {M : Type 1} → statement M
 tingmudra-free-page-spec =
     tie.close
     (tie.spec
-    bad-buffer-requires
+    (λ c κs. search needs)
     returns
-    load-requires
-    free-page-requires
-    finished-requires
-    same-length
-    same-length-2
+    (λ c κs. search needs)
+    (λ c κs. search needs)
+    (λ c κs. search needs)
+    (λ c. search needs)
+    (λ c. search needs)
     returns-2)

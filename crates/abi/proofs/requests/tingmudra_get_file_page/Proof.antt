@@ -1,30 +1,14 @@
 -- `abi::requests::tingmudra_get_file_page` meets its contract: the record's length picks the case of `getLeft`, and what was read is packed
--- as it was. Assumes nothing.
-use borrow.Author.Needs.{needs}
-use borrow.Author.Tests.{eq-eqb, ne-eqb}
+-- as it was.
+use Rattle.common.specs.Kit.{needs, eq-eqb, ne-eqb}
 use Rattle.abi.specs.Promise.{getLeft}
 use Rattle.abi.proofs.Packed.{packed-unpacked}
 use Rattle.abi.proofs.requests.tingmudra_get_file_page.Statement.{statement}
 use Rattle.abi.proofs.requests.tingmudra_get_file_page.Tie as tie
 
-bad-buffer-requires : tie.Need-bad-buffer-requires
-bad-buffer-requires c κs = search needs
-
 returns : tie.Need-returns
 unfolding getLeft
 returns c = simp (ne-eqb _ 21 (c .before .if1 .taken), c .bad-buffer .ensures)
-
-load-requires : tie.Need-load-requires
-load-requires c κs = search needs
-
-get-file-page-requires : tie.Need-get-file-page-requires
-get-file-page-requires c κs = search needs
-
-of-count-requires : tie.Need-of-count-requires
-of-count-requires c κs = search needs
-
-same-length : tie.Need-same-length
-same-length c = search needs
 
 returns-2 : tie.Need-returns-2
 unfolding getLeft
@@ -37,10 +21,10 @@ pub tingmudra-get-file-page-spec : {M : Type 1} → statement M
 tingmudra-get-file-page-spec =
     tie.close
     (tie.spec
-    bad-buffer-requires
+    (λ c κs. search needs)
     returns
-    load-requires
-    get-file-page-requires
-    of-count-requires
-    same-length
+    (λ c κs. search needs)
+    (λ c κs. search needs)
+    (λ c κs. search needs)
+    (λ c. search needs)
     returns-2)

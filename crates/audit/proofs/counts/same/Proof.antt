@@ -1,11 +1,5 @@
--- `audit::counts::same` meets its contract: the orders that are left have the answer. Assumes nothing.
-use Prim.Native.Nat.{_-_, _≤_}
-use native.Mathlib.Omega.{arith}
-use mathlib.Core.Path.{_≡_, refl}
-use lib.Dec.{eqb}
-use lib.ListN.{getD}
-use borrow.Author.Needs.{needs}
-use borrow.Author.Tests.{eq-eqb, ne-eqb}
+-- `audit::counts::same` meets its contract: the orders that are left have the answer.
+use Rattle.common.specs.Kit.{_-_, _≤_, _≡_, refl, eqb, getD, arith, needs, eq-eqb, ne-eqb}
 use Rattle.audit.specs.Check.{all, counts}
 use Rattle.audit.proofs.Loops.{all-next, all-stops, all-ends}
 use Rattle.audit.proofs.counts.same.Statement.{statement}

@@ -1,6 +1,5 @@
--- `audit::lists::is_free` meets its contract: the tests are those of `isFree`. Assumes nothing.
-use borrow.Author.Needs.{needs}
-use borrow.Author.Tests.{lt-ltb, le-ltb, le-leb, lt-leb}
+-- `audit::lists::is_free` meets its contract: the tests are those of `isFree`.
+use Rattle.common.specs.Kit.{needs, lt-ltb, le-ltb, le-leb, lt-leb}
 use Rattle.audit.specs.Check.{isFree}
 use Rattle.audit.proofs.lists.is_free.Statement.{statement}
 use Rattle.audit.proofs.lists.is_free.Tie as tie
@@ -12,12 +11,6 @@ returns c = simp (lt-leb _ _ (c .if1 .taken))
 returns-2 : tie.Need-returns-2
 unfolding isFree
 returns-2 c = simp (le-leb _ _ (c .before .if1 .left), le-ltb _ _ (c .if2 .taken))
-
-read-page-info-requires : tie.Need-read-page-info-requires
-read-page-info-requires c κs = search needs
-
-free-order-requires : tie.Need-free-order-requires
-free-order-requires c κs = search needs
 
 returns-3 : tie.Need-returns-3
 unfolding isFree
@@ -31,4 +24,4 @@ returns-3 c =
 
 pub is-free-spec : {M : Type 1} → statement M
 is-free-spec =
-    tie.close (tie.spec returns returns-2 read-page-info-requires free-order-requires returns-3)
+    tie.close (tie.spec returns returns-2 (λ c κs. search needs) (λ c κs. search needs) returns-3)

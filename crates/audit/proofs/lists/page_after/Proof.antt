@@ -1,14 +1,9 @@
--- `audit::lists::page_after` meets its contract: the test picks the case. Assumes nothing.
-use native.Mathlib.Omega.{arith}
-use mathlib.Core.Path.{sym, _∙_}
-use borrow.Author.Needs.{needs}
+-- `audit::lists::page_after` meets its contract: the test picks the case.
+use Rattle.common.specs.Kit.{sym, _∙_, arith, needs}
 use Rattle.audit.specs.Survey.{pageAfter}
 use Rattle.audit.proofs.Listing.{decide-free}
 use Rattle.audit.proofs.lists.page_after.Statement.{statement}
 use Rattle.audit.proofs.lists.page_after.Tie as tie
-
-is-free-requires : tie.Need-is-free-requires
-is-free-requires c κs = search needs
 
 next-free-pfn-requires : tie.Need-next-free-pfn-requires
 next-free-pfn-requires c κs =
@@ -23,4 +18,4 @@ unfolding pageAfter
 returns-2 c = rw (← c .before .is-free .ensures, c .if1 .left)
 
 pub page-after-spec : {M : Type 1} → statement M
-page-after-spec = tie.close (tie.spec is-free-requires next-free-pfn-requires returns returns-2)
+page-after-spec = tie.close (tie.spec (λ c κs. search needs) next-free-pfn-requires returns returns-2)

@@ -1,10 +1,5 @@
--- `audit::survey::is_upper_half` meets its contract: the tests are those of `upperHalf`. Assumes nothing.
-use Prim.Native.Nat.{_+_}
-use native.Mathlib.Omega.{arith}
-use mathlib.Core.Bool.{and-false}
-use lib.Pow.{pow-pos}
-use borrow.Author.Needs.{needs}
-use borrow.Author.Tests.{lt-ltb, le-ltb, eq-eqb, ne-eqb}
+-- `audit::survey::is_upper_half` meets its contract: the tests are those of `upperHalf`.
+use Rattle.common.specs.Kit.{_+_, and-false, pow-pos, arith, needs, eq-eqb, ne-eqb, lt-ltb, le-ltb}
 use Rattle.audit.specs.Survey.{upperHalf}
 use Rattle.audit.proofs.survey.is_upper_half.Statement.{statement}
 use Rattle.audit.proofs.survey.is_upper_half.Tie as tie
@@ -13,18 +8,9 @@ returns : tie.Need-returns
 unfolding upperHalf
 returns c = simp (ne-eqb _ _ (c .if1 .taken), and-false)
 
-sub-if2 : tie.Need-sub-if2
-sub-if2 c = search needs
-
 returns-2 : tie.Need-returns-2
 unfolding upperHalf
 returns-2 c = simp (le-ltb _ _ (c .if2 .taken))
-
-add-size : tie.Need-add-size
-add-size c = search needs
-
-size-requires : tie.Need-size-requires
-size-requires c κs = search needs
 
 rem-result : tie.Need-rem-result
 rem-result c = omega (arith, c .size .ensures, pow-pos (c .before .before .before .args .before + 1))
@@ -35,4 +21,4 @@ returns-3 c = simp (eq-eqb _ _ (c .before .before .if1 .left), lt-ltb _ _ (c .be
 
 pub is-upper-half-spec : {M : Type 1} → statement M
 is-upper-half-spec =
-    tie.close (tie.spec returns sub-if2 returns-2 add-size size-requires rem-result returns-3)
+    tie.close (tie.spec returns (λ c. search needs) returns-2 (λ c. search needs) (λ c κs. search needs) rem-result returns-3)

@@ -1,9 +1,6 @@
--- `audit::survey::note_free` meets its contract: what is not free changes nothing, and the test decides for the rest. Assumes nothing.
-use native.Mathlib.Omega.{arith}
-use mathlib.Core.Path.{sym, ap, _∙_}
-use mathlib.Core.Bool.{not, false≢true}
+-- `audit::survey::note_free` meets its contract: what is not free changes nothing, and the test decides for the rest.
+use Rattle.common.specs.Kit.{sym, ap, _∙_, not, false≢true, arith, needs}
 use lib.Seq.{set-out}
-use borrow.Author.Needs.{needs}
 use Rattle.audit.proofs.Buddies.{used-half}
 use Rattle.audit.proofs.survey.note_free.Statement.{statement}
 use Rattle.audit.proofs.survey.note_free.Tie as tie
@@ -17,9 +14,6 @@ returns c =
       listed = λ _. sym (set-out _ _ _ (omega (arith, h .lists, c .if1 .taken)));
     }
 
-is-upper-half-requires : tie.Need-is-upper-half-requires
-is-upper-half-requires c κs = search needs
-
 returns-2 : tie.Need-returns-2
 returns-2 c =
     record {
@@ -27,12 +21,6 @@ returns-2 c =
       counted = λ n. absurd (false≢true n);
       listed = λ n. absurd (false≢true n);
     }
-
-add-one-requires : tie.Need-add-one-requires
-add-one-requires c κs = search needs
-
-step-requires : tie.Need-step-requires
-step-requires c κs = search needs
 
 returns-3 : tie.Need-returns-3
 returns-3 c =
@@ -46,4 +34,4 @@ returns-3 c =
 pub note-free-spec : {M : Type 1} → statement M
 note-free-spec =
     tie.close
-    (tie.spec returns is-upper-half-requires returns-2 add-one-requires step-requires returns-3)
+    (tie.spec returns (λ c κs. search needs) returns-2 (λ c κs. search needs) (λ c κs. search needs) returns-3)

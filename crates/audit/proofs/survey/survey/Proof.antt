@@ -1,12 +1,6 @@
--- `audit::survey::survey` meets its contract: up to the page that it has come to, all is as it should be. Assumes nothing.
-use Prim.Native.Nat.{_+_, _-_, _^_, _≤_, _<_}
-use native.Mathlib.Omega.{arith}
-use mathlib.Core.Path.{_≡_, ap, _∙_}
-use mathlib.Core.Bool.{true}
+-- `audit::survey::survey` meets its contract: up to the page that it has come to, all is as it should be.
+use Rattle.common.specs.Kit.{_+_, _-_, _^_, _≤_, _<_, _≡_, ap, _∙_, true, pow-pos, arith, needs, not-true, not-false}
 use denote.Ref.{now}
-use lib.Pow.{pow-pos}
-use borrow.Author.Needs.{needs}
-use borrow.Author.Tests.{not-true, not-false}
 use Rattle.pages.specs.Said.{said}
 use Rattle.region.specs.Pages.{headOrder}
 use Rattle.audit.specs.Check.{blockAt}

@@ -1,9 +1,5 @@
--- `audit::tiles::all_say` meets its contract: no other word so far, and the pages that are left, have the answer. Assumes nothing.
-use Prim.Native.Nat.{_-_}
-use mathlib.Core.Path.{refl}
-use lib.Dec.{eqb}
-use lib.ListN.{getD}
-use borrow.Author.Needs.{needs}
+-- `audit::tiles::all_say` meets its contract: no other word so far, and the pages that are left, have the answer.
+use Rattle.common.specs.Kit.{_-_, refl, eqb, getD, needs}
 use Rattle.audit.specs.Check.{all, allSay}
 use Rattle.audit.proofs.Loops.{Gathered, gather-next, gather-ends}
 use Rattle.audit.proofs.tiles.all_say.Statement.{statement}

@@ -1,9 +1,5 @@
--- `audit::tiles::block_at` meets its contract: the tests are those of `blockAt`. Assumes nothing.
-use Prim.Native.Nat.{_+_, _^_, _≤_, _<_}
-use native.Mathlib.Omega.{arith}
-use lib.Pow.{pow-pos}
-use borrow.Author.Needs.{needs}
-use borrow.Author.Tests.{lt-ltb, le-ltb, le-leb, lt-leb, eq-eqb, ne-eqb}
+-- `audit::tiles::block_at` meets its contract: the tests are those of `blockAt`.
+use Rattle.common.specs.Kit.{_+_, _^_, _≤_, _<_, pow-pos, arith, needs, eq-eqb, ne-eqb, lt-ltb, le-ltb, le-leb, lt-leb}
 use Rattle.audit.specs.Check.{blockAt}
 use Rattle.audit.proofs.tiles.block_at.Statement.{statement}
 use Rattle.audit.proofs.tiles.block_at.Tie as tie
@@ -12,9 +8,6 @@ returns : tie.Need-returns
 unfolding blockAt
 returns c = simp (le-ltb _ _ (c .if1 .taken))
 
-size-requires : tie.Need-size-requires
-size-requires c κs = search needs
-
 rem-if2 : tie.Need-rem-if2
 rem-if2 c = omega (arith, c .size .ensures, pow-pos (c .before .before .before .args .order))
 
@@ -22,24 +15,12 @@ returns-2 : tie.Need-returns-2
 unfolding blockAt
 returns-2 c = simp (lt-ltb _ _ (c .before .before .if1 .left), ne-eqb _ _ (rw (c .before .size .ensures) at (c .if2 .taken)))
 
-sub-if3 : tie.Need-sub-if3
-sub-if3 c = search needs
-
 returns-3 : tie.Need-returns-3
 unfolding blockAt
 returns-3 c =
     let a = c .before .before .before .before .before .args in
     let h : a .end < a .pfn + 2 ^ a .order = omega (arith, c .before .before .size .ensures) in
     simp (lt-ltb _ _ (c .before .before .before .if1 .left), eq-eqb _ _ (rw (c .before .before .size .ensures) at (c .before .if2 .left)), lt-leb _ _ h)
-
-add-all-say : tie.Need-add-all-say
-add-all-say c = search needs
-
-add-all-say-2 : tie.Need-add-all-say-2
-add-all-say-2 c = search needs
-
-all-say-requires : tie.Need-all-say-requires
-all-say-requires c κs = search needs
 
 returns-4 : tie.Need-returns-4
 unfolding blockAt
@@ -59,12 +40,12 @@ block-at-spec =
     tie.close
     (tie.spec
     returns
-    size-requires
+    (λ c κs. search needs)
     rem-if2
     returns-2
-    sub-if3
+    (λ c. search needs)
     returns-3
-    add-all-say
-    add-all-say-2
-    all-say-requires
+    (λ c. search needs)
+    (λ c. search needs)
+    (λ c κs. search needs)
     returns-4)

@@ -1,13 +1,9 @@
--- `heap::reads::layout_from_ptr` meets its contract: the audit's answer picks the case of `lookupPromise`. Assumes nothing.
-use mathlib.Core.Path.{sym, _∙_}
+-- `heap::reads::layout_from_ptr` meets its contract: the audit's answer picks the case of `lookupPromise`.
+use Rattle.common.specs.Kit.{sym, _∙_, needs}
 use Rattle.heap.specs.Promise.{lookupPromise}
 use Rattle.heap.proofs.Audited.{passed}
-use borrow.Author.Needs.{needs}
 use Rattle.heap.proofs.reads.layout_from_ptr.Statement.{statement}
 use Rattle.heap.proofs.reads.layout_from_ptr.Tie as tie
-
-audit-requires : tie.Need-audit-requires
-audit-requires c κs = search needs
 
 layout-from-ptr-requires : tie.Need-layout-from-ptr-requires
 layout-from-ptr-requires c κs = passed _ _ (c .before .audit .ensures) (c .if1 .taken)
@@ -22,4 +18,4 @@ returns-2 c = simp (sym (c .before .audit .ensures) ∙ c .if1 .left)
 
 pub layout-from-ptr-spec : {M : Type 1} → statement M
 layout-from-ptr-spec =
-    tie.close (tie.spec audit-requires layout-from-ptr-requires returns returns-2)
+    tie.close (tie.spec (λ c κs. search needs) layout-from-ptr-requires returns returns-2)

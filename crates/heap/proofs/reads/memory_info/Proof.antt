@@ -1,12 +1,8 @@
--- `heap::reads::memory_info` meets its contract: the audit's answer picks the case of `reportPromise`. Assumes nothing.
-use mathlib.Core.Path.{sym, _∙_}
+-- `heap::reads::memory_info` meets its contract: the audit's answer picks the case of `reportPromise`.
+use Rattle.common.specs.Kit.{sym, _∙_, needs}
 use Rattle.heap.specs.Promise.{reportPromise}
-use borrow.Author.Needs.{needs}
 use Rattle.heap.proofs.reads.memory_info.Statement.{statement}
 use Rattle.heap.proofs.reads.memory_info.Tie as tie
-
-audit-requires : tie.Need-audit-requires
-audit-requires c κs = search needs
 
 returns : tie.Need-returns
 unfolding reportPromise
@@ -17,4 +13,4 @@ unfolding reportPromise
 returns-2 c = simp (sym (c .before .audit .ensures) ∙ c .if1 .left)
 
 pub memory-info-spec : {M : Type 1} → statement M
-memory-info-spec = tie.close (tie.spec audit-requires returns returns-2)
+memory-info-spec = tie.close (tie.spec (λ c κs. search needs) returns returns-2)

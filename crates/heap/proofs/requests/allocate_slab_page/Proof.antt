@@ -1,29 +1,16 @@
--- `heap::requests::allocate_slab_page` meets its contract: the audit's answer picks the case of `slabPromise`. Assumes nothing.
-use mathlib.Core.Path.{sym, _∙_}
+-- `heap::requests::allocate_slab_page` meets its contract: the audit's answer picks the case of `slabPromise`.
+use Rattle.common.specs.Kit.{sym, _∙_, needs}
 use Rattle.heap.specs.Promise.{slabPromise}
 use Rattle.heap.proofs.Audited.{passed}
-use borrow.Author.Needs.{needs}
 use Rattle.heap.proofs.requests.allocate_slab_page.Statement.{statement}
 use Rattle.heap.proofs.requests.allocate_slab_page.Tie as tie
-
-audit-requires : tie.Need-audit-requires
-audit-requires c κs = search needs
 
 allocate-slab-page-requires : tie.Need-allocate-slab-page-requires
 allocate-slab-page-requires c κs = passed _ _ (c .before .before .audit .ensures) (c .before .if1 .taken)
 
-damaged-grant-requires : tie.Need-damaged-grant-requires
-damaged-grant-requires c κs = search needs
-
-same-length : tie.Need-same-length
-same-length c = search needs
-
 returns : tie.Need-returns
 unfolding slabPromise
 returns c = simp (sym (c .before .before .before .before .before .audit .ensures) ∙ c .before .before .before .before .if1 .taken) (c .before .before .allocate-slab-page .ensures)
-
-same-length-2 : tie.Need-same-length-2
-same-length-2 c = search needs
 
 returns-2 : tie.Need-returns-2
 unfolding slabPromise
@@ -35,10 +22,10 @@ pub allocate-slab-page-spec : {M : Type 1} → statement M
 allocate-slab-page-spec =
     tie.close
     (tie.spec
-    audit-requires
+    (λ c κs. search needs)
     allocate-slab-page-requires
-    damaged-grant-requires
-    same-length
+    (λ c κs. search needs)
+    (λ c. search needs)
     returns
-    same-length-2
+    (λ c. search needs)
     returns-2)

@@ -1,24 +1,10 @@
--- `heap::start::root_mem_init` meets its contract, by the laws `sets-code` and `refuses-code`. Assumes nothing.
-use mathlib.Core.Path.{sym, ap, _∙_}
-use mathlib.Core.List.{[]}
-use Rattle.calls.specs.Told.{ok, done}
-use Rattle.calls.specs.Code.{leaves}
+-- `heap::start::root_mem_init` meets its contract, by the laws `sets-code` and `refuses-code`.
+use Rattle.common.specs.Kit.{sym, ap, _∙_, [], needs}
+use Rattle.sound_calls.specs.Told.{ok, done}
+use Rattle.sound_calls.specs.Code.{leaves}
 use Rattle.heap.proofs.SetUps.{set-up-limits, sets-code, refuses-code}
-use borrow.Author.Needs.{needs}
 use Rattle.heap.proofs.start.root_mem_init.Statement.{statement}
 use Rattle.heap.proofs.start.root_mem_init.Tie as tie
-
-set-up-answer-requires : tie.Need-set-up-answer-requires
-set-up-answer-requires c κs = search needs
-
-enum-told : tie.Need-enum-told
-enum-told c = search needs
-
-enum-told-2 : tie.Need-enum-told-2
-enum-told-2 c = search needs
-
-empty-region-requires : tie.Need-empty-region-requires
-empty-region-requires c κs = search needs
 
 returns : tie.Need-returns
 returns c =
@@ -29,9 +15,6 @@ returns c =
 init-memory-requires : tie.Need-init-memory-requires
 init-memory-requires c κs = set-up-limits _ _ _ _ (sym (c .before .before .before .set-up-answer .ensures) ∙ ap done (c .before .enum-told .given .1))
 
-same-length : tie.Need-same-length
-same-length c = search needs
-
 returns-2 : tie.Need-returns-2
 returns-2 c =
     ap (leaves (ok [])) (c .before .before .init-memory .ensures)
@@ -41,11 +24,11 @@ pub root-mem-init-spec : {M : Type 1} → statement M
 root-mem-init-spec =
     tie.close
     (tie.spec
-    set-up-answer-requires
-    enum-told
-    enum-told-2
-    empty-region-requires
+    (λ c κs. search needs)
+    (λ c. search needs)
+    (λ c. search needs)
+    (λ c κs. search needs)
     returns
     init-memory-requires
-    same-length
+    (λ c. search needs)
     returns-2)

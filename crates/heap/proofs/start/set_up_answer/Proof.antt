@@ -1,15 +1,9 @@
--- `heap::start::set_up_answer` meets its contract: the tests are those of `setUpTold`, one by one. Assumes nothing.
-use Prim.Native.Nat.{_+_, _-_, _*_, _%_, _^_, _≤_}
-use mathlib.Core.Path.{_≡_}
-use mathlib.Core.Bool.{true, _&&_}
-use native.Mathlib.Omega.{arith}
-use lib.Dec.{leb, eqb}
-use borrow.Author.Tests.{le-leb, lt-leb, eq-eqb, ne-eqb}
+-- `heap::start::set_up_answer` meets its contract: the tests are those of `setUpTold`, one by one.
+use Rattle.common.specs.Kit.{_+_, _-_, _*_, _%_, _^_, _≤_, _≡_, true, _&&_, eqb, leb, arith, needs, eq-eqb, ne-eqb, le-leb, lt-leb}
 use Rattle.region.specs.Layout.{maxPages}
 use Rattle.region.proofs.Limits.{good-small}
 use Rattle.audit.proofs.Loops.{failed, passed}
 use Rattle.heap.specs.Promise.{setUpTold}
-use borrow.Author.Needs.{needs}
 use Rattle.heap.proofs.start.set_up_answer.Statement.{statement}
 use Rattle.heap.proofs.start.set_up_answer.Tie as tie
 
@@ -34,9 +28,6 @@ placed c =
       eq-eqb _ 0 (c .before .if3 .left),
       le-leb (s .start-virt .0 + 4096 * s .page-count) (2 ^ 64 - 1) (omega (arith, few (c .before .before .before))),
     )
-
-pages-good-requires : tie.Need-pages-good-requires
-pages-good-requires c κs = search needs
 
 returns : tie.Need-returns
 unfolding setUpTold
@@ -83,7 +74,7 @@ pub set-up-answer-spec : {M : Type 1} → statement M
 set-up-answer-spec =
     tie.close
     (tie.spec
-    pages-good-requires
+    (λ c κs. search needs)
     returns
     returns-2
     returns-3

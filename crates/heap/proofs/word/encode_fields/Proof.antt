@@ -1,12 +1,8 @@
--- `heap::word::encode_fields` meets its contract: each test is the one of `encodeFields`. Assumes nothing.
-use borrow.Author.Needs.{needs}
-use borrow.Author.Tests.{eq-eqb, ne-eqb}
+-- `heap::word::encode_fields` meets its contract: each test is the one of `encodeFields`.
+use Rattle.common.specs.Kit.{needs, eq-eqb, ne-eqb}
 use Rattle.heap.specs.Fields.{encodeFields}
 use Rattle.heap.proofs.word.encode_fields.Statement.{statement}
 use Rattle.heap.proofs.word.encode_fields.Tie as tie
-
-encode-requires : tie.Need-encode-requires
-encode-requires c κs = search needs
 
 returns : tie.Need-returns
 unfolding encodeFields
@@ -15,21 +11,6 @@ returns c = simp (c .encode .ensures, eq-eqb _ 0 (c .before .if1 .taken))
 returns-2 : tie.Need-returns-2
 unfolding encodeFields
 returns-2 c = simp (ne-eqb _ 0 (c .before .if1 .left), ne-eqb _ 0 (c .if2 .taken))
-
-encode-requires-2 : tie.Need-encode-requires-2
-encode-requires-2 c κs = search needs
-
-encode-requires-3 : tie.Need-encode-requires-3
-encode-requires-3 c κs = search needs
-
-encode-requires-4 : tie.Need-encode-requires-4
-encode-requires-4 c κs = search needs
-
-encode-requires-5 : tie.Need-encode-requires-5
-encode-requires-5 c κs = search needs
-
-reserved-requires : tie.Need-reserved-requires
-reserved-requires c κs = search needs
 
 returns-3 : tie.Need-returns-3
 unfolding encodeFields
@@ -69,14 +50,14 @@ pub encode-fields-spec : {M : Type 1} → statement M
 encode-fields-spec =
     tie.close
     (tie.spec
-    encode-requires
+    (λ c κs. search needs)
     returns
     returns-2
-    encode-requires-2
-    encode-requires-3
-    encode-requires-4
-    encode-requires-5
-    reserved-requires
+    (λ c κs. search needs)
+    (λ c κs. search needs)
+    (λ c κs. search needs)
+    (λ c κs. search needs)
+    (λ c κs. search needs)
     returns-3
     returns-4
     returns-5

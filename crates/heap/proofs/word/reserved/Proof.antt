@@ -1,12 +1,8 @@
--- `heap::word::reserved` meets its contract: the test is the one of `encodeFields`. Assumes nothing.
-use borrow.Author.Needs.{needs}
-use borrow.Author.Tests.{eq-eqb, ne-eqb}
+-- `heap::word::reserved` meets its contract: the test is the one of `encodeFields`.
+use Rattle.common.specs.Kit.{needs, eq-eqb, ne-eqb}
 use Rattle.heap.specs.Fields.{encodeFields}
 use Rattle.heap.proofs.word.reserved.Statement.{statement}
 use Rattle.heap.proofs.word.reserved.Tie as tie
-
-encode-requires : tie.Need-encode-requires
-encode-requires c κs = search needs
 
 returns : tie.Need-returns
 unfolding encodeFields
@@ -17,4 +13,4 @@ unfolding encodeFields
 returns-2 c = simp (ne-eqb _ 0 (c .if1 .left))
 
 pub reserved-spec : {M : Type 1} → statement M
-reserved-spec = tie.close (tie.spec encode-requires returns returns-2)
+reserved-spec = tie.close (tie.spec (λ c κs. search needs) returns returns-2)

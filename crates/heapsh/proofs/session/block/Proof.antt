@@ -1,5 +1,5 @@
 -- `heapsh::session::block` meets its contract. The loop's invariant: a line starts at `at` and ends at `end`, within the text, and the buffers
--- keep their lengths. The measure is what is left of the text. Assumes nothing.
+-- keep their lengths. The measure is what is left of the text.
 use Prim.Native.Nat.{_≤_, _-_}
 use mathlib.Core.Path.{_≡_}
 use lib.ListN.{length}

@@ -1,4 +1,4 @@
--- `heapsh::session::keep` ends and is safe. The loop's invariant: the buffer keeps its length. Assumes nothing.
+-- `heapsh::session::keep` ends and is safe. The loop's invariant: the buffer keeps its length.
 use Prim.Native.Nat.{_-_}
 use mathlib.Core.Path.{_≡_}
 use lib.ListN.{length}

@@ -1,4 +1,4 @@
--- `heapsh::session::serve` ends and is safe. The loop's invariant: the buffers keep their lengths. Assumes nothing.
+-- `heapsh::session::serve` ends and is safe. The loop's invariant: the buffers keep their lengths.
 use mathlib.Core.Path.{_≡_}
 use lib.ListN.{length}
 use borrow.Author.Needs.{needs}

@@ -1,16 +1,8 @@
--- `region::HeapMemoryRegion::get_next_page` meets its contract: the test for no page picks the case of `takeHead`. Assumes nothing.
-use mathlib.Core.Path.{refl}
-use borrow.Author.Tests.{eq-eqb, ne-eqb}
-use borrow.Author.Needs.{needs}
+-- `region::HeapMemoryRegion::get_next_page` meets its contract: the test for no page picks the case of `takeHead`.
+use Rattle.common.specs.Kit.{refl, needs, eq-eqb, ne-eqb}
 use Rattle.region.specs.State.{takeHead, headTaken}
 use Rattle.region.proofs.HeapMemoryRegion.get_next_page.Statement.{statement}
 use Rattle.region.proofs.HeapMemoryRegion.get_next_page.Tie as tie
-
-mul-pfn : tie.Need-mul-pfn
-mul-pfn c = search needs
-
-element-copy-out-pfn : tie.Need-element-copy-out-pfn
-element-copy-out-pfn c = search needs
 
 returns : tie.Need-returns
 unfolding takeHead headTaken
@@ -22,21 +14,9 @@ next-free-pfn-requires c κs = c .before .before .before .before .pre .head (c .
 write-page-info-requires : tie.Need-write-page-info-requires
 write-page-info-requires c κs = c .before .before .before .before .before .before .pre .head (c .before .before .before .if1 .left)
 
-mul-free : tie.Need-mul-free
-mul-free c = search needs
-
-element-copy-out-free : tie.Need-element-copy-out-free
-element-copy-out-free c = search needs
-
 sub-with-list : tie.Need-sub-with-list
 sub-with-list c =
     let some = c .before .before .before .before .before .before .before in some .before .before .before .pre .some (some .if1 .left)
-
-with-list-requires : tie.Need-with-list-requires
-with-list-requires c κs = search needs
-
-same-length : tie.Need-same-length
-same-length c = search needs
 
 returns-2 : tie.Need-returns-2
 unfolding takeHead headTaken
@@ -50,14 +30,14 @@ pub get-next-page-spec : {M : Type 1} → statement M
 get-next-page-spec =
     tie.close
     (tie.spec
-    mul-pfn
-    element-copy-out-pfn
+    (λ c. search needs)
+    (λ c. search needs)
     returns
     next-free-pfn-requires
     write-page-info-requires
-    mul-free
-    element-copy-out-free
+    (λ c. search needs)
+    (λ c. search needs)
     sub-with-list
-    with-list-requires
-    same-length
+    (λ c κs. search needs)
+    (λ c. search needs)
     returns-2)

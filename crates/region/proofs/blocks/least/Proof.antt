@@ -1,5 +1,5 @@
--- `region::blocks::least` meets its contract: the test picks the case of `lower`. Assumes nothing.
-use borrow.Author.Tests.{le-leb, lt-leb}
+-- `region::blocks::least` meets its contract: the test picks the case of `lower`.
+use Rattle.common.specs.Kit.{le-leb, lt-leb}
 use Rattle.region.proofs.blocks.least.Statement.{statement}
 use Rattle.region.proofs.blocks.least.Tie as tie
 

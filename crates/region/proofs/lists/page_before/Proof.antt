@@ -1,9 +1,6 @@
 -- `region::lists::page_before` meets its contract. The loop's invariant: what is looked for is what the rest of the walk finds, and that
--- walk is safe. The measure is the steps left. Assumes nothing.
-use mathlib.Core.Path.{_≡_, refl, sym, _∙_}
-use native.Mathlib.Omega.{arith}
-use borrow.Author.Tests.{eq-eqb, ne-eqb}
-use borrow.Author.Needs.{needs}
+-- walk is safe. The measure is the steps left.
+use Rattle.common.specs.Kit.{_≡_, refl, sym, _∙_, arith, needs, eq-eqb, ne-eqb}
 use Rattle.region.specs.State.{pageBefore, WalkOk}
 use Rattle.region.proofs.Walk.{before-step, walk-step}
 use Rattle.region.proofs.lists.page_before.Statement.{statement}

@@ -1,11 +1,5 @@
--- `shell::record::field` meets its contract: its test is the one of `withThree`. Assumes nothing.
-use Prim.Native.Nat.{ℕ, _<_}
-use mathlib.Core.Path.{_≡_, sym, _∙_}
-use mathlib.Core.Bool.{Bool, true, false, cond}
-use native.Mathlib.Omega.{arith}
-use lib.Dec.{ltb, eqb}
-use borrow.Author.Needs.{needs}
-use borrow.Author.Tests.{ltb-true, eqb-true}
+-- `shell::record::field` meets its contract: its test is the one of `withThree`.
+use Rattle.common.specs.Kit.{ℕ, _<_, _≡_, sym, _∙_, Bool, true, false, cond, eqb, ltb, arith, needs, eqb-true, ltb-true}
 use Rattle.shell.specs.Request.{hasOrders, hasOne, hasField, withThree}
 use Rattle.shell.proofs.record.field.Statement.{statement}
 use Rattle.shell.proofs.record.field.Tie as tie

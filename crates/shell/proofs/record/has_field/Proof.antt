@@ -1,9 +1,6 @@
--- `shell::record::has_field` meets its contract: each arm says of each of its names what `hasField` says. Assumes nothing.
-use Prim.Native.Nat.{ℕ}
-use mathlib.Core.Path.{_≡_, refl}
-use mathlib.Core.List.{List, [], _∷_}
-use lib.Dec.{ltb, eqb}
-use Rattle.ask.specs.Names as Name
+-- `shell::record::has_field` meets its contract: each arm says of each of its names what `hasField` says.
+use Rattle.common.specs.Kit.{ℕ, _≡_, refl, List, [], _∷_, eqb, ltb}
+use Rattle.parse.specs.Names as Name
 use Rattle.shell.specs.Request.{hasField}
 use Rattle.shell.proofs.Keys.{one-of, none-of}
 use Rattle.shell.proofs.record.has_field.Statement.{statement}

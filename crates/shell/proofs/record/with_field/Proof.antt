@@ -1,6 +1,5 @@
--- `shell::record::with_field` meets its contract: each arm writes the field of its name. Assumes nothing.
-use borrow.Author.Needs.{needs}
-use borrow.Author.Tests.{ne-eqb}
+-- `shell::record::with_field` meets its contract: each arm writes the field of its name.
+use Rattle.common.specs.Kit.{needs, ne-eqb}
 use Rattle.shell.specs.Request.{withField}
 use Rattle.shell.proofs.record.with_field.Statement.{statement}
 use Rattle.shell.proofs.record.with_field.Tie as tie

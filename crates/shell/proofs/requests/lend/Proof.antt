@@ -1,6 +1,5 @@
--- `shell::requests::lend` meets its contract: its test is the one of `withNumber`. Assumes nothing.
-use borrow.Author.Needs.{needs}
-use borrow.Author.Tests.{le-leb, lt-leb}
+-- `shell::requests::lend` meets its contract: its test is the one of `withNumber`.
+use Rattle.common.specs.Kit.{needs, le-leb, lt-leb}
 use Rattle.shell.specs.Request.{withNumber}
 use Rattle.shell.proofs.requests.lend.Statement.{statement}
 use Rattle.shell.proofs.requests.lend.Tie as tie

@@ -1,10 +1,6 @@
--- `shell::requests::plain` meets its contract: the arms of the match are the cases of the definition. Assumes nothing.
-use Prim.Native.Nat.{ℕ}
-use mathlib.Core.Path.{_≡_, refl}
-use mathlib.Core.List.{List, [], _∷_}
-use borrow.Author.Needs.{needs}
-use borrow.Author.Tests.{ne-eqb}
-use Rattle.ask.specs.Names as Name
+-- `shell::requests::plain` meets its contract: the arms of the match are the cases of the definition.
+use Rattle.common.specs.Kit.{ℕ, _≡_, refl, List, [], _∷_, needs, ne-eqb}
+use Rattle.parse.specs.Names as Name
 use Rattle.shell.specs.Request.{did, alone}
 use Rattle.shell.specs.declared.steps.Answer.{Answer}
 use Rattle.shell.proofs.Keys.{one-of, none-of}

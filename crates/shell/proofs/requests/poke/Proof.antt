@@ -1,6 +1,5 @@
--- `shell::requests::poke` meets its contract: its test is the one of `withTwo`. Assumes nothing.
-use borrow.Author.Needs.{needs}
-use borrow.Author.Tests.{lt-ltb, le-ltb}
+-- `shell::requests::poke` meets its contract: its test is the one of `withTwo`.
+use Rattle.common.specs.Kit.{needs, lt-ltb, le-ltb}
 use Rattle.shell.specs.Request.{withTwo}
 use Rattle.shell.proofs.requests.poke.Statement.{statement}
 use Rattle.shell.proofs.requests.poke.Tie as tie

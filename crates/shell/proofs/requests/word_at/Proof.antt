@@ -1,6 +1,5 @@
--- `shell::requests::word_at` meets its contract: its test is the one of `reads`. Assumes nothing.
-use borrow.Author.Needs.{needs}
-use borrow.Author.Tests.{lt-ltb, le-ltb}
+-- `shell::requests::word_at` meets its contract: its test is the one of `reads`.
+use Rattle.common.specs.Kit.{needs, lt-ltb, le-ltb}
 use Rattle.shell.specs.Request.{reads}
 use Rattle.shell.proofs.requests.word_at.Statement.{statement}
 use Rattle.shell.proofs.requests.word_at.Tie as tie

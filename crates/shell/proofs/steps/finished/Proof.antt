@@ -1,5 +1,5 @@
--- `shell::steps::finished` meets its contract: the call's record, and its answer as a line. Assumes nothing.
-use borrow.Author.Needs.{needs}
+-- `shell::steps::finished` meets its contract: the call's record, and its answer as a line.
+use Rattle.common.specs.Kit.{needs}
 use Rattle.shell.proofs.steps.finished.Statement.{statement}
 use Rattle.shell.proofs.steps.finished.Tie as tie
 

@@ -1,9 +1,6 @@
 -- `words::order::get_order` meets its contract. The loop's invariant: `bytes` is the block of `order`, and the block of each order passed
--- is less than `size`. So the order where it ends is the least, as is `orderOf size`. The measure is what `bytes` lacks. Assumes nothing.
-use Prim.Native.Nat.{ℕ, _≤_, _<_, _-_}
-use mathlib.Core.Path.{_≡_, sym}
-use native.Mathlib.Omega.{arith}
-use borrow.Author.Needs.{needs}
+-- is less than `size`. So the order where it ends is the least, as is `orderOf size`. The measure is what `bytes` lacks.
+use Rattle.common.specs.Kit.{ℕ, _-_, _≤_, _<_, _≡_, sym, arith, needs}
 use borrow.Author.Count.{below-more}
 use Rattle.words.specs.Order.{blockBytes}
 use Rattle.words.proofs.OrderLaws.{block-more, order-least, least-unique, order-top}

@@ -1,9 +1,5 @@
--- `words::word::bits` meets its contract: the word of the fields that the arm found fits 64 bits, so each part of it does. Assumes nothing.
-use borrow.Author.Needs.{needs}
-use Prim.Native.Nat.{_<_, _^_}
-use native.Mathlib.Omega.{arith}
-use mathlib.Core.Path.{_≡_, subst}
-use mathlib.Core.Bool.{true}
+-- `words::word::bits` meets its contract: the word of the fields that the arm found fits 64 bits, so each part of it does.
+use Rattle.common.specs.Kit.{_^_, _<_, _≡_, subst, true, arith, needs}
 use Rattle.words.specs.Word.{inTable, wordOf}
 use Rattle.words.specs.declared.word.PageInfo.{PageInfo}
 use Rattle.words.proofs.Fields.{word-fits}
@@ -14,12 +10,6 @@ use Rattle.words.proofs.word.bits.Tie as tie
 fits : {i j : PageInfo} → i ≡ j → inTable i ≡ true → wordOf j < 2 ^ 64
 fits {i} {j} e h = word-fits j (subst (λ (x : PageInfo). inTable x ≡ true) e h)
 
-enum-known-info : tie.Need-enum-known-info
-enum-known-info c = search needs
-
-encode-next-requires : tie.Need-encode-next-requires
-encode-next-requires c κs = search needs
-
 mul-result : tie.Need-mul-result
 mul-result c = omega (arith, fits (c .before .before .info .given .1) (c .before .before .before .before .pre))
 
@@ -29,17 +19,11 @@ mul-result-2 c = omega (arith, fits (c .before .before .info .given .1) (c .befo
 add-result : tie.Need-add-result
 add-result c = omega (arith, fits (c .before .before .info .given .1) (c .before .before .before .before .pre))
 
-enum-known-info-2 : tie.Need-enum-known-info-2
-enum-known-info-2 c = search needs
-
 mul-result-3 : tie.Need-mul-result-3
 mul-result-3 c = omega (arith, fits (c .before .info2 .given .1) (c .before .before .before .pre))
 
 add-result-2 : tie.Need-add-result-2
 add-result-2 c = omega (arith, fits (c .before .info2 .given .1) (c .before .before .before .pre))
-
-enum-known-info-3 : tie.Need-enum-known-info-3
-enum-known-info-3 c = search needs
 
 mul-result-4 : tie.Need-mul-result-4
 mul-result-4 c = omega (arith, fits (c .before .before .info3 .given .1) (c .before .before .before .before .pre))
@@ -47,26 +31,17 @@ mul-result-4 c = omega (arith, fits (c .before .before .info3 .given .1) (c .bef
 add-result-3 : tie.Need-add-result-3
 add-result-3 c = omega (arith, fits (c .before .before .info3 .given .1) (c .before .before .before .before .pre))
 
-enum-known-info-4 : tie.Need-enum-known-info-4
-enum-known-info-4 c = search needs
-
 mul-result-5 : tie.Need-mul-result-5
 mul-result-5 c = omega (arith, fits (c .before .info4 .given .1) (c .before .before .before .pre))
 
 add-result-4 : tie.Need-add-result-4
 add-result-4 c = omega (arith, fits (c .before .info4 .given .1) (c .before .before .before .pre))
 
-enum-known-info-5 : tie.Need-enum-known-info-5
-enum-known-info-5 c = search needs
-
 mul-result-6 : tie.Need-mul-result-6
 mul-result-6 c = omega (arith, fits (c .before .before .info5 .given .1) (c .before .before .before .before .pre))
 
 add-result-5 : tie.Need-add-result-5
 add-result-5 c = omega (arith, fits (c .before .before .info5 .given .1) (c .before .before .before .before .pre))
-
-enum-told : tie.Need-enum-told
-enum-told c = search needs
 
 returns : tie.Need-returns
 returns c = simp (c .before .before .info .given .1, c .encode-next .ensures)
@@ -90,24 +65,24 @@ pub bits-spec : {M : Type 1} → statement M
 bits-spec =
     tie.close
     (tie.spec
-    enum-known-info
-    encode-next-requires
+    (λ c. search needs)
+    (λ c κs. search needs)
     mul-result
     mul-result-2
     add-result
-    enum-known-info-2
+    (λ c. search needs)
     mul-result-3
     add-result-2
-    enum-known-info-3
+    (λ c. search needs)
     mul-result-4
     add-result-3
-    enum-known-info-4
+    (λ c. search needs)
     mul-result-5
     add-result-4
-    enum-known-info-5
+    (λ c. search needs)
     mul-result-6
     add-result-5
-    enum-told
+    (λ c. search needs)
     returns
     returns-2
     returns-3

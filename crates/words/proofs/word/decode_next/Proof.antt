@@ -1,5 +1,5 @@
--- `words::word::decode_next` meets its contract: the test picks the case of `nextPage`. Assumes nothing.
-use borrow.Author.Tests.{eq-eqb, ne-eqb}
+-- `words::word::decode_next` meets its contract: the test picks the case of `nextPage`.
+use Rattle.common.specs.Kit.{eq-eqb, ne-eqb}
 use Rattle.words.proofs.word.decode_next.Statement.{statement}
 use Rattle.words.proofs.word.decode_next.Tie as tie
 

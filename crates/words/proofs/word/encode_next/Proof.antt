@@ -1,5 +1,5 @@
--- `words::word::encode_next` meets its contract: the test picks the case of `nextField`. Assumes nothing.
-use borrow.Author.Tests.{eq-eqb, ne-eqb}
+-- `words::word::encode_next` meets its contract: the test picks the case of `nextField`.
+use Rattle.common.specs.Kit.{eq-eqb, ne-eqb}
 use Rattle.words.proofs.word.encode_next.Statement.{statement}
 use Rattle.words.proofs.word.encode_next.Tie as tie
 

@@ -1,5 +1,5 @@
--- `words::word::has_field` meets its contract: the test picks the case of `hasField`. Assumes nothing.
-use borrow.Author.Tests.{eq-eqb, ne-eqb}
+-- `words::word::has_field` meets its contract: the test picks the case of `hasField`.
+use Rattle.common.specs.Kit.{eq-eqb, ne-eqb}
 use Rattle.words.proofs.word.has_field.Statement.{statement}
 use Rattle.words.proofs.word.has_field.Tie as tie
 

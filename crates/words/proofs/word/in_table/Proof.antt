@@ -1,29 +1,7 @@
--- `words::word::in_table` meets its contract: the arm says which constructor it is, and its test is the one of `inTable`. Assumes nothing.
-use borrow.Author.Needs.{needs}
-use borrow.Author.Tests.{lt-ltb, le-ltb}
+-- `words::word::in_table` meets its contract: the arm says which constructor it is, and its test is the one of `inTable`.
+use Rattle.common.specs.Kit.{needs, lt-ltb, le-ltb}
 use Rattle.words.proofs.word.in_table.Statement.{statement}
 use Rattle.words.proofs.word.in_table.Tie as tie
-
-enum-known-info : tie.Need-enum-known-info
-enum-known-info c = search needs
-
-has-field-requires : tie.Need-has-field-requires
-has-field-requires c κs = search needs
-
-enum-known-info-2 : tie.Need-enum-known-info-2
-enum-known-info-2 c = search needs
-
-enum-known-info-3 : tie.Need-enum-known-info-3
-enum-known-info-3 c = search needs
-
-enum-known-info-4 : tie.Need-enum-known-info-4
-enum-known-info-4 c = search needs
-
-enum-known-info-5 : tie.Need-enum-known-info-5
-enum-known-info-5 c = search needs
-
-enum-told : tie.Need-enum-told
-enum-told c = search needs
 
 returns : tie.Need-returns
 returns c = simp (c .before .before .before .before .info .given .1, lt-ltb _ _ (c .before .if1 .taken), c .has-field .ensures)
@@ -50,13 +28,13 @@ pub in-table-spec : {M : Type 1} → statement M
 in-table-spec =
     tie.close
     (tie.spec
-    enum-known-info
-    has-field-requires
-    enum-known-info-2
-    enum-known-info-3
-    enum-known-info-4
-    enum-known-info-5
-    enum-told
+    (λ c. search needs)
+    (λ c κs. search needs)
+    (λ c. search needs)
+    (λ c. search needs)
+    (λ c. search needs)
+    (λ c. search needs)
+    (λ c. search needs)
     returns
     returns-2
     returns-3

@@ -1,5 +1,5 @@
--- `words::word::row` meets its contract: the tests that led to each `return` pick the case of `row`. Assumes nothing.
-use borrow.Author.Tests.{lt-ltb, le-ltb, eq-eqb, ne-eqb}
+-- `words::word::row` meets its contract: the tests that led to each `return` pick the case of `row`.
+use Rattle.common.specs.Kit.{eq-eqb, ne-eqb, lt-ltb, le-ltb}
 use Rattle.words.specs.Word.{row}
 use Rattle.words.proofs.word.row.Statement.{statement}
 use Rattle.words.proofs.word.row.Tie as tie

@@ -1,25 +1,12 @@
 -- `words::place::PageNumber::virt_addr` meets its contract: room for the page is a sum that fits.
--- Assumes nothing.
-use Prim.Native.Nat.{_+_, _*_, _^_, _<_, _≤_}
-use native.Mathlib.Omega.{arith}
-use borrow.Author.Tests.{lt-ltb, le-ltb, le-leb, lt-leb}
+use Rattle.common.specs.Kit.{_+_, _*_, _^_, _≤_, _<_, arith, needs, lt-ltb, le-ltb, le-leb, lt-leb}
 use Rattle.words.specs.Place.{addressAt}
-use borrow.Author.Needs.{needs}
 use Rattle.words.proofs.place.PageNumber.virt_addr.Statement.{statement}
 use Rattle.words.proofs.place.PageNumber.virt_addr.Tie as tie
 
 returns : tie.Need-returns
 unfolding addressAt
 returns c = simp (le-leb _ _ (c .if1 .taken))
-
-sub-room : tie.Need-sub-room
-sub-room c = search needs
-
-mul-t8 : tie.Need-mul-t8
-mul-t8 c = search needs
-
-add-t9 : tie.Need-add-t9
-add-t9 c = search needs
 
 returns-2 : tie.Need-returns-2
 unfolding addressAt
@@ -36,4 +23,4 @@ returns-3 c =
     simp (lt-leb _ _ (c .before .before .before .if1 .left), le-ltb _ _ h)
 
 pub virt-addr-spec : {M : Type 1} → statement M
-virt-addr-spec = tie.close (tie.spec returns sub-room mul-t8 add-t9 returns-2 returns-3)
+virt-addr-spec = tie.close (tie.spec returns (λ c. search needs) (λ c. search needs) (λ c. search needs) returns-2 returns-3)

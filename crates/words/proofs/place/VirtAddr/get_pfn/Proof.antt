@@ -1,6 +1,5 @@
 -- `words::place::VirtAddr::get_pfn` meets its contract: at each `return` the tests that led there pick the case of `pageAt`.
--- Assumes nothing.
-use borrow.Author.Tests.{lt-ltb, le-ltb, le-leb, lt-leb, eq-eqb, ne-eqb}
+use Rattle.common.specs.Kit.{eq-eqb, ne-eqb, lt-ltb, le-ltb, le-leb, lt-leb}
 use Rattle.words.specs.Place.{pageAt}
 use Rattle.words.proofs.place.VirtAddr.get_pfn.Statement.{statement}
 use Rattle.words.proofs.place.VirtAddr.get_pfn.Tie as tie

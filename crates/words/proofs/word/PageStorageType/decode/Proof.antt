@@ -1,30 +1,8 @@
--- `words::word::PageStorageType::decode` meets its contract: the type picks the row of `decodeOf`, which `row` answers. Assumes nothing.
-use borrow.Author.Needs.{needs}
-use borrow.Author.Tests.{ne-eqb}
+-- `words::word::PageStorageType::decode` meets its contract: the type picks the row of `decodeOf`, which `row` answers.
+use Rattle.common.specs.Kit.{needs, ne-eqb}
 use Rattle.words.specs.Word.{decodeOf}
 use Rattle.words.proofs.word.PageStorageType.decode.Statement.{statement}
 use Rattle.words.proofs.word.PageStorageType.decode.Tie as tie
-
-decode-next-requires : tie.Need-decode-next-requires
-decode-next-requires c κs = search needs
-
-row-requires : tie.Need-row-requires
-row-requires c κs = search needs
-
-row-requires-2 : tie.Need-row-requires-2
-row-requires-2 c κs = search needs
-
-row-requires-3 : tie.Need-row-requires-3
-row-requires-3 c κs = search needs
-
-row-requires-4 : tie.Need-row-requires-4
-row-requires-4 c κs = search needs
-
-row-requires-5 : tie.Need-row-requires-5
-row-requires-5 c κs = search needs
-
-row-requires-6 : tie.Need-row-requires-6
-row-requires-6 c κs = search needs
 
 returns : tie.Need-returns
 unfolding decodeOf
@@ -61,13 +39,13 @@ pub decode-spec : {M : Type 1} → statement M
 decode-spec =
     tie.close
     (tie.spec
-    decode-next-requires
-    row-requires
-    row-requires-2
-    row-requires-3
-    row-requires-4
-    row-requires-5
-    row-requires-6
+    (λ c κs. search needs)
+    (λ c κs. search needs)
+    (λ c κs. search needs)
+    (λ c κs. search needs)
+    (λ c κs. search needs)
+    (λ c κs. search needs)
+    (λ c κs. search needs)
     returns
     returns-2
     returns-3

@@ -1,15 +1,8 @@
--- `words::word::PageStorageType::encode` meets its contract: the test of `in_table` picks the case of `encodeOf`. Assumes nothing.
-use borrow.Author.Needs.{needs}
-use mathlib.Core.Path.{sym}
+-- `words::word::PageStorageType::encode` meets its contract: the test of `in_table` picks the case of `encodeOf`.
+use Rattle.common.specs.Kit.{sym, needs}
 use Rattle.words.specs.Word.{encodeOf}
 use Rattle.words.proofs.word.PageStorageType.encode.Statement.{statement}
 use Rattle.words.proofs.word.PageStorageType.encode.Tie as tie
-
-in-table-requires : tie.Need-in-table-requires
-in-table-requires c κs = search needs
-
-bits-requires : tie.Need-bits-requires
-bits-requires c κs = search needs
 
 returns : tie.Need-returns
 unfolding encodeOf
@@ -20,4 +13,4 @@ unfolding encodeOf
 returns-2 c = search needs
 
 pub encode-spec : {M : Type 1} → statement M
-encode-spec = tie.close (tie.spec in-table-requires bits-requires returns returns-2)
+encode-spec = tie.close (tie.spec (λ c κs. search needs) (λ c κs. search needs) returns returns-2)

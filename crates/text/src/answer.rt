@@ -1,0 +1,91 @@
+// An answer of one line: a word, and up to two values.
+ghost use mathlib.Core.Path.{_≡_};
+ghost use Rattle.text.specs.Line.{line};
+ghost use Rattle.text.specs.declared.answer.Value.{Value};
+use crate::hex;
+use crate::named;
+use crate::text;
+
+pub enum Word {
+    Ok,
+    No,
+    Bad,
+    Out,
+    Free,
+    Allocated,
+    Slab,
+    Compound,
+    File,
+    Reserved,
+    Hex(u64),
+}
+
+pub enum Value {
+    None,
+    Number(u64),
+    Hex(u64),
+    NoPage,
+}
+
+pub struct Line {
+    word: Word,
+    a: Value,
+    b: Value,
+}
+
+pub fn bare(word: Word) -> Line
+    ensures { λ r. ⌜ r ≡ line word Value.None Value.None ⌝ }
+{
+    with(word, Value::None)
+}
+
+pub fn with(word: Word, a: Value) -> Line
+    ensures { λ r. ⌜ r ≡ line word a Value.None ⌝ }
+{
+    with_both(word, a, Value::None)
+}
+
+pub fn with_both(word: Word, a: Value, b: Value) -> Line
+    ensures { λ r. ⌜ r ≡ line word a b ⌝ }
+{
+    Line { word, a, b }
+}
+
+pub fn write(out: &mut [u8], at: usize, line: Line) -> usize {
+    let word = line.word;
+    let a = line.a;
+    let b = line.b;
+    let mut used = write_word(out, at, word);
+    used = write_value(out, used, a);
+    used = write_value(out, used, b);
+    text(out, used, b"\n")
+}
+
+fn write_word(out: &mut [u8], at: usize, word: Word) -> usize {
+    match word {
+        Word::Ok => text(out, at, b"ok"),
+        Word::No => text(out, at, b"no"),
+        Word::Bad => text(out, at, b"bad"),
+        Word::Out => text(out, at, b"out"),
+        Word::Free => text(out, at, b"free"),
+        Word::Allocated => text(out, at, b"allocated"),
+        Word::Slab => text(out, at, b"slab"),
+        Word::Compound => text(out, at, b"compound"),
+        Word::File => text(out, at, b"file"),
+        Word::Reserved => text(out, at, b"reserved"),
+        Word::Hex(w) => hex(out, at, w, 1),
+    }
+}
+
+// A value, after a blank.
+pub fn write_value(out: &mut [u8], at: usize, value: Value) -> usize {
+    match value {
+        Value::None => at,
+        Value::Number(n) => named(out, at, b" ", n),
+        Value::Hex(w) => {
+            let used = text(out, at, b" ");
+            hex(out, used, w, 1)
+        }
+        Value::NoPage => text(out, at, b" -"),
+    }
+}
