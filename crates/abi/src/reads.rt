@@ -1,17 +1,17 @@
 // The calls that only read: lookup, report and audit.
 ghost use mathlib.Core.Path.{_≡_};
-ghost use Rattle.abi.specs.Promise.{reported, lookupTold, auditTold, reportLeft};
-use crate::answer::Answer;
+ghost use Rattle.abi.specs.Promise.{reported, lookupAnswer, auditAnswer, reportLeft};
+use crate::answer::Exported;
 use crate::answer::bad_buffer;
-use crate::answer::of_done;
-use crate::answer::of_layout;
+use crate::answer::export;
 use crate::record::RECORD;
 use crate::record::load;
 use crate::record::put_six;
 use heap::reads::audit;
 use heap::reads::layout_from_ptr;
 use heap::reads::memory_info;
-use sound_calls::Done;
+use sound_calls::of_done;
+use sound_calls::of_layout;
 use words::place::VirtAddr;
 
 // The length of a report: blocks and free blocks of each order.
@@ -19,24 +19,24 @@ pub const REPORT: usize = 12;
 
 // Size and alignment of what the page of an address was granted as.
 #[no_mangle]
-pub extern "C" fn tingmudra_layout_from_ptr(numbers: &[u64], words: &[u64], vaddr: u64) -> Answer
-    ensures { λ r. ⌜ r ≡ lookupTold (now (numbers .entry)) (now (words .entry)) vaddr ⌝ }
+pub extern "C" fn tingmudra_layout_from_ptr(numbers: &[u64], words: &[u64], vaddr: u64) -> Exported
+    ensures { λ r. ⌜ r ≡ lookupAnswer (now (numbers .entry)) (now (words .entry)) vaddr ⌝ }
 {
     if numbers.len() != RECORD {
         return bad_buffer();
     }
-    of_layout(layout_from_ptr(load(numbers), words, VirtAddr(vaddr)))
+    export(of_layout(layout_from_ptr(load(numbers), words, VirtAddr(vaddr))))
 }
 
 // Whether record and words are sound.
 #[no_mangle]
-pub extern "C" fn tingmudra_audit(numbers: &[u64], words: &[u64]) -> Answer
-    ensures { λ r. ⌜ r ≡ auditTold (now (numbers .entry)) (now (words .entry)) ⌝ }
+pub extern "C" fn tingmudra_audit(numbers: &[u64], words: &[u64]) -> Exported
+    ensures { λ r. ⌜ r ≡ auditAnswer (now (numbers .entry)) (now (words .entry)) ⌝ }
 {
     if numbers.len() != RECORD {
         return bad_buffer();
     }
-    of_done(audit(load(numbers), words))
+    export(of_done(audit(load(numbers), words)))
 }
 
 // Blocks and free blocks of each order, written to `report`.
@@ -45,7 +45,7 @@ pub extern "C" fn tingmudra_memory_info(
     numbers: &[u64],
     words: &[u64],
     report: &mut [u64],
-) -> Answer
+) -> Exported
     ensures { λ r. ⌜ reported r (now (report .exit)) ≡ reportLeft (now (numbers .entry)) (now (words .entry)) (now (report .entry)) ⌝ }
 {
     if numbers.len() != RECORD {
@@ -55,13 +55,14 @@ pub extern "C" fn tingmudra_memory_info(
         return bad_buffer();
     }
     let info = memory_info(load(numbers), words);
-    let answer = info.answer;
-    let Done::Ok = answer else {
-        return of_done(answer);
-    };
+    let done = info.answer;
+    let answer = export(of_done(done));
+    if answer.number != 0 {
+        return answer;
+    }
     let free_pages = info.free_pages;
     let total_pages = info.total_pages;
     put_six(report, 6, free_pages);
     put_six(report, 0, total_pages);
-    of_done(Done::Ok)
+    answer
 }

@@ -2,18 +2,18 @@
 ghost use mathlib.Core.Path.{_≡_};
 ghost use Rattle.words.specs.Word.{decodeOf};
 ghost use Rattle.words.specs.Order.{orderOf};
-ghost use Rattle.heap.specs.Fields.{encodeFields};
-ghost use Rattle.abi.specs.Word.{fieldsOf, encodedOf};
-use crate::answer::Answer;
+ghost use Rattle.words.specs.RawFields.{encodeFields};
+ghost use Rattle.abi.specs.Word.{saidOf, encodedOf};
+use crate::answer::Exported;
 use heap::word::decode;
 use heap::word::encode_fields;
 use heap::word::get_order;
+use words::raw::fields_of;
 use words::word::Decoded;
 use words::word::Encoded;
-use words::word::PageInfo;
 
-// No word has these fields, or no fields this word: document 01's plain "no".
-pub const NO: u64 = 14;
+// No word has these fields, or no fields this word: the plain "no" (W6, W7), under a number of our own (`BAD_BUFFER`).
+pub const NO: u64 = 0x4000_0001;
 
 // A page's fields: its type's number; order, item size or count; next page. 0 where the type has no such field.
 #[repr(C)]
@@ -27,54 +27,41 @@ pub struct Fields {
 // What a page's word says.
 #[no_mangle]
 pub extern "C" fn tingmudra_decode(word: u64) -> Fields
-    ensures { λ r. ⌜ r ≡ fieldsOf (decodeOf word) ⌝ }
+    ensures { λ r. ⌜ r ≡ saidOf (decodeOf word) ⌝ }
 {
     let Decoded::Info(info) = decode(word) else {
-        return said(NO, 0, 0, 0);
+        return Fields {
+            number: NO,
+            kind: 0,
+            field: 0,
+            next: 0,
+        };
     };
-    match info {
-        PageInfo::Free(i) => said(0, 0, i.order as u64, i.next_page as u64),
-        PageInfo::Allocated(i) => said(0, 1, i.order as u64, 0),
-        PageInfo::Slab(i) => said(0, 2, i.item_size, 0),
-        PageInfo::Compound(i) => said(0, 3, i.order as u64, 0),
-        PageInfo::File(i) => said(0, 4, i.ref_count, 0),
-        PageInfo::Reserved(_) => said(0, 15, 0, 0),
-    }
-}
-
-fn said(number: u64, kind: u64, field: u64, next: u64) -> Fields
-    ensures { λ r. ⌜ r ≡ record { number = number; kind = kind; field = field; next = next } ⌝ }
-{
+    let said = fields_of(info);
     Fields {
-        number: number,
-        kind: kind,
-        field: field,
-        next: next,
+        number: 0,
+        kind: said.kind,
+        field: said.field,
+        next: said.next,
     }
 }
 
 // The word of raw fields, by the type's number.
 #[no_mangle]
-pub extern "C" fn tingmudra_encode(kind: u64, field: u64, next: u64) -> Answer
+pub extern "C" fn tingmudra_encode(kind: u64, field: u64, next: u64) -> Exported
     ensures { λ r. ⌜ r ≡ encodedOf (encodeFields kind field next) ⌝ }
 {
-    of_encoded(encode_fields(kind, field, next))
-}
-
-fn of_encoded(encoded: Encoded) -> Answer
-    ensures { λ r. ⌜ r ≡ encodedOf encoded ⌝ }
-{
-    match encoded {
-        Encoded::Word(w) => Answer {
-            number: 0,
-            value: w.0,
-            second: 0,
-        },
-        Encoded::No => Answer {
+    let Encoded::Word(word) = encode_fields(kind, field, next) else {
+        return Exported {
             number: NO,
             value: 0,
             second: 0,
-        },
+        };
+    };
+    Exported {
+        number: 0,
+        value: word.0,
+        second: 0,
     }
 }
 

@@ -1,8 +1,8 @@
 // The answers of several numbers or lines, each made of the record and the words.
 use crate::hash::fnv;
 use crate::help::help;
+use crate::lines::of_answer;
 use crate::lines::page_number;
-use crate::lines::refusal;
 use heap::Report;
 use heap::reads::audit;
 use heap::reads::memory_info;
@@ -10,6 +10,7 @@ use heap::word::decode;
 use parse::names;
 use region::HeapMemoryRegion;
 use sound_calls::Done;
+use sound_calls::of_refusal;
 use text::answer::Value;
 use text::answer::write;
 use text::answer::write_value;
@@ -46,7 +47,7 @@ fn report(out: &mut [u8], at: usize, report: Report, lines: bool) -> usize {
     let total = report.total_pages;
     let free = report.free_pages;
     if let Done::Refused(e) = done {
-        return write(out, at, refusal(e));
+        return write(out, at, of_answer(of_refusal(e)));
     }
     if lines {
         return report_lines(out, at, total, free);
@@ -102,9 +103,8 @@ fn value_of(n: usize, page: bool) -> Value {
 
 // The pages of each list, if all is sound.
 fn lists(out: &mut [u8], at: usize, region: HeapMemoryRegion, words: &[u64]) -> usize {
-    let done = audit(region, words);
-    if let Done::Refused(e) = done {
-        return write(out, at, refusal(e));
+    if let Done::Refused(e) = audit(region, words) {
+        return write(out, at, of_answer(of_refusal(e)));
     }
     let heads = region.next_page;
     let counts = region.free_pages;

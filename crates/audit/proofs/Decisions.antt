@@ -1,5 +1,6 @@
 -- Tests that decide: comparisons, both of two, not, and a test at a run of numbers. Nothing here is about a heap.
-use Rattle.common.specs.Kit.{ℕ, zero, suc, _+_, _≤_, _<_, _≡_, refl, Bool, true, false, not, _&&_, false≢true, eqb, leb, ltb, ℕ-discrete, arith, eq-eqb, lt-ltb, le-leb, eqb-true, ltb-true, leb-true}
+use Rattle.common.specs.Kit.{ℕ, zero, suc, _+_, _≤_, _<_, _≡_, refl, Bool, true, false, not, _&&_, false≢true, T, eqb, leb, ltb, ℕ-discrete, arith, eq-eqb, lt-ltb, le-leb, eqb-true, ltb-true, leb-true}
+use Rattle.common.proofs.Tests.{T-true, bool-iff}
 use Rattle.audit.specs.Decides.{Decides}
 use Rattle.audit.specs.Check.{all}
 
@@ -14,6 +15,13 @@ decide-le m n = record { yes = leb-true m n; back = le-leb m n }
 
 pub decide-lt : (m n : ℕ) → Decides (ltb m n) (m < n)
 decide-lt m n = record { yes = ltb-true m n; back = lt-ltb m n }
+
+pub decide-T : (b : Bool) → Decides b (T b)
+decide-T b = record { yes = λ e. rw e tt; back = T-true b }
+
+-- two tests of one question
+pub decide-same : {b c : Bool} {P : Type 0} → Decides b P → Decides c P → b ≡ c
+decide-same {b} {c} d f = bool-iff b c (λ t. rw (f .back (d .yes (T-true b t))) tt) (λ t. rw (d .back (f .yes (T-true c t))) tt)
 
 -- the same question in other words
 pub decide-as : {b : Bool} {P Q : Type 0} → (P → Q) → (Q → P) → Decides b P → Decides b Q

@@ -1,18 +1,16 @@
 -- Pages of which none is managed are sound exactly up to the limit on pages, whatever that is. This is a result.
-use Rattle.common.specs.Kit.{ℕ, _+_, _-_, _*_, _^_, _≤_, _<_, _≡_, refl, sym, ap, _∙_, List, [], leb, length, getD, replicate, getD-replicate, arith, le-leb, leb-true}
+use Rattle.common.specs.Kit.{ℕ, _+_, _-_, _*_, _^_, _≤_, _<_, _≡_, refl, sym, ap, _∙_, false, List, [], T, leb, length, getD, replicate, getD-replicate, arith, le-leb, leb-true}
 use lib.ListN.{length-append, length-replicate, List·getD-append}
 use lib.Seq.{getD-append-add}
 use Rattle.common.proofs.Tests.{by-test}
+use Rattle.common.proofs.Counts.{no-count}
 use Rattle.words.specs.Word.{noPage, row, decodeOf, memOf}
+use Rattle.buddy.proofs.Spans.{span-out}
 use Rattle.pages.specs.Info.{allocatedInfo, reservedInfo}
-use Rattle.pages.specs.Said.{said}
-use Rattle.region.specs.Layout.{maxPages, metaPages, allocPages}
-use Rattle.region.specs.Pages.{headOrder, freeOrder}
+use Rattle.region.specs.Layout.{maxPages, metaPages, allocPages, managed}
 use Rattle.region.specs.Sound.{Sound}
 use Rattle.audit.specs.Check.{keeps, soundB}
 use Rattle.audit.specs.Cases.{idle-region, idle-words}
-use Rattle.audit.proofs.Tallies.{tally-none}
-use Rattle.audit.proofs.Tiling.{tiled-none}
 use Rattle.audit.proofs.Sound.{sound-decides}
 
 module _ (n : ℕ) (some : 1 ≤ n) where
@@ -28,6 +26,12 @@ module _ (n : ℕ) (some : 1 ≤ n) where
       ap (λ i. getD (idle-words n) i 0) (sym q)
       ∙ getD-append-add boots _ (p - allocPages n) 0
       ∙ getD-replicate (metaPages n) (p - allocPages n) _ 0 (omega arith)
+
+  unmanaged : (p : ℕ) → managed (idle-region n) (idle-words n) p ≡ false
+  unmanaged p = span-out (allocPages n) (allocPages n) p (omega arith)
+
+  none : (p : ℕ) → T (managed (idle-region n) (idle-words n) p) → ⊥
+  none p m = rw (unmanaged p) at m
 
   idle-sound : 1048576 + 4096 * n ≤ 2 ^ 64 - 1 → n ≤ maxPages → Sound (idle-region n) (idle-words n)
   unfolding row decodeOf memOf
@@ -45,11 +49,11 @@ module _ (n : ℕ) (some : 1 ≤ n) where
         };
         boot = record { each = λ p _ h. ap decodeOf (boot-word p h) };
         metadata = record { each = λ p h k. ap decodeOf (metadata-word p h k) };
-        tiled = tiled-none ws a;
-        lists = λ o h. record { list = []; linked = getD-replicate 6 o noPage 0 h; once = λ p f. absurd (omega (arith, f .from, f .below)) };
-        buddies = record { none = λ o p l f g. omega (arith, f .from, f .below) };
-        totals = tally-none (λ p. headOrder (said ws p)) a .each;
-        free = tally-none (λ p. freeOrder (said ws p)) a .each;
+        tiled = record { each = λ q m. absurd (none q m) };
+        lists = λ o h. record { list = []; linked = getD-replicate 6 o noPage 0 h; once = λ p f. absurd (none p (f .managed)) };
+        buddies = record { none = λ o p l f g. none p (f .managed) };
+        totals = λ o h. getD-replicate 6 o 0 0 h ∙ sym (no-count _ a (λ p. rw (unmanaged p)));
+        free = λ o h. getD-replicate 6 o 0 0 h ∙ sym (no-count _ a (λ p. rw (unmanaged p)));
       }
 
   pub idle-answer : 1048576 + 4096 * n ≤ 2 ^ 64 - 1 → soundB (idle-region n) (idle-words n) ≡ leb n maxPages

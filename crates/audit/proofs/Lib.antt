@@ -1,7 +1,6 @@
 pub mod Limit
 pub mod Loops
 pub mod Decisions
-pub mod Sums
 pub mod Tallies
 pub mod Saying
 pub mod Tiling

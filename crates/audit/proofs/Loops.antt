@@ -1,9 +1,7 @@
 -- The tests of `Check` as loops go through them: b is the answer, and what is left has it too, until a test fails or nothing is left.
-use Rattle.common.specs.Kit.{ℕ, zero, suc, _+_, _-_, _^_, _≤_, _<_, _≡_, refl, sym, ap, _∙_, Bool, true, false, not, _&&_, and-true, and-assoc, List, eqb, pow-pos, ℕ-discrete, arith, eq-eqb, ne-eqb, le-leb, lt-leb, not-true, not-false}
+use Rattle.common.specs.Kit.{ℕ, zero, suc, _+_, _-_, _≤_, _<_, _≡_, refl, sym, ap, _∙_, Bool, true, false, not, _&&_, and-true, and-assoc, eqb, ℕ-discrete, arith, eq-eqb, ne-eqb, not-true, not-false}
 use lib.Bits.{bitOr, bitXor, xor-self, or-add-and, xor-add-and, and-le-l, and-le-r}
-use Rattle.pages.specs.Said.{said}
-use Rattle.region.specs.Pages.{headOrder}
-use Rattle.audit.specs.Check.{all, blockAt, tiles}
+use Rattle.audit.specs.Check.{all}
 
 -- what `if !f(..)` says of the test that f answers
 pub failed : {b t : Bool} → b ≡ t → not b ≡ true → t ≡ false
@@ -78,30 +76,3 @@ pub all-same : (f g : ℕ → Bool) (a n : ℕ) → ((p : ℕ) → p < a + n →
 unfolding all
 all-same f g a zero h = refl
 all-same f g a (suc n) h = rw (h a (omega arith), all-same f g (a + 1) n (λ p k. h p (omega arith)))
-
--- the blocks from page p up to e; there are no more of them than pages
-pub record TilesLeft (ws : List ℕ) (e p : ℕ) (b : Bool) : Type 0 where
-  pub most : ℕ
-  pub enough : e - p ≤ most
-  pub left : b ≡ tiles ws e most p
-
-module _ {b : Bool} (ws : List ℕ) (e p : ℕ) (t : TilesLeft ws e p b) where
-  tiles-step : p < e → b ≡ blockAt ws e p (headOrder (said ws p)) && tiles ws e (t .most - 1) (p + 2 ^ headOrder (said ws p))
-  unfolding tiles
-  tiles-step h =
-      let k : t .most ≡ suc (t .most - 1) = omega (arith, t .enough) in t .left ∙ ap (λ n. tiles ws e n p) k ∙ rw (lt-leb e p h)
-
-  pub tiles-next : p < e → blockAt ws e p (headOrder (said ws p)) ≡ true → TilesLeft ws e (p + 2 ^ headOrder (said ws p)) b
-  tiles-next h i =
-      record { most = t .most - 1; enough = omega (arith, t .enough, pow-pos (headOrder (said ws p))); left = tiles-step h ∙ rw i }
-
-  pub tiles-stops : p < e → blockAt ws e p (headOrder (said ws p)) ≡ false → false ≡ b
-  tiles-stops h i = sym (tiles-step h ∙ rw i)
-
-  pub tiles-ends : e ≤ p → true ≡ b
-  unfolding tiles
-  tiles-ends h = sym (t .left ∙ ends (t .most))
-    where
-      ends : (n : ℕ) → tiles ws e n p ≡ true
-      ends zero = le-leb e p h
-      ends (suc n) = rw (le-leb e p h)

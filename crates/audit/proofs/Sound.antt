@@ -1,17 +1,17 @@
 -- `soundB` decides `Sound`: each line's test decides its field, and may rest on the lines before it. This is a result.
-use Rattle.common.specs.Kit.{ℕ, _+_, _-_, _*_, _%_, _^_, refl, List, length, getD, le-refl, arith}
+use Rattle.common.specs.Kit.{ℕ, _+_, _-_, _*_, _%_, _^_, refl, List, length, getD}
 use Rattle.pages.specs.Info.{allocatedInfo, reservedInfo}
-use Rattle.region.specs.Layout.{endOf, maxPages}
+use Rattle.region.specs.Layout.{endOf, maxPages, managed}
 use Rattle.region.specs.Pages.{blocks, frees}
 use Rattle.region.specs.Sound.{Sound}
 use Rattle.region.specs.declared.HeapMemoryRegion.{HeapMemoryRegion}
 use Rattle.audit.specs.Decides.{Decides}
 use Rattle.audit.specs.Check.{keeps, numbers, every, soundB}
 use Rattle.audit.specs.Counts.{InLimits}
-use Rattle.audit.proofs.Limit.{limits-within}
+use Rattle.audit.proofs.Limit.{limits-bounded}
 use Rattle.audit.proofs.Decisions.{decide-true, decide-eq, decide-le, decide-as, decide-and, decide-orders}
 use Rattle.audit.proofs.Saying.{decide-say}
-use Rattle.audit.proofs.Tiling.{tiled-none, decide-tiles}
+use Rattle.audit.proofs.Tiling.{decide-tiles}
 use Rattle.audit.proofs.Listing.{decide-list}
 use Rattle.audit.proofs.Buddies.{decide-buddies}
 
@@ -32,7 +32,7 @@ module _ (r : HeapMemoryRegion) (ws : List ℕ) where
   pub sound-decides : Decides (soundB r ws) (Sound r ws)
   unfolding soundB keeps
   sound-decides =
-      let a = r .allocated in
+      let M = managed r ws in
       let e = endOf r in
       decide-as
       (λ x. record {
@@ -48,10 +48,10 @@ module _ (r : HeapMemoryRegion) (ws : List ℕ) where
       (λ s. (s .limits, ((s .boot, (s .metadata, (s .tiled, tt))), (s .lists, (s .buddies, (s .totals, (s .free, tt)))))))
       (decide-and decide-limits
       (λ l. decide-and
-      (decide-and (decide-say ws 0 a (allocatedInfo 0) refl (λ w e. e))
+      (decide-and (decide-say ws 0 (r .allocated) (allocatedInfo 0) refl (λ w e. e))
       (λ _. decide-and (decide-say ws e (r .«page_count») reservedInfo refl (λ w e. e))
-      (λ _. decide-and (decide-tiles ws a e (e - a) a (le-refl a) (l .boot) (le-refl (e - a)) (tiled-none ws a)) (λ _. decide-true))))
-      (λ m. decide-and (decide-orders (λ o. decide-list ws a e o (omega (arith, limits-within ws l)) (getD (r .«next_page») o 0)))
-      (λ _. decide-and (decide-buddies ws a e (m .1 .1 .0))
-      (λ _. decide-and (decide-orders (λ o. decide-eq (getD (r .«nr_pages») o 0) (blocks ws a e o)))
-      (λ _. decide-and (decide-orders (λ o. decide-eq (getD (r .«free_pages») o 0) (frees ws a e o))) (λ _. decide-true)))))))
+      (λ _. decide-and (decide-tiles ws M (limits-bounded r ws l)) (λ _. decide-true))))
+      (λ m. decide-and (decide-orders (λ o. decide-list ws (limits-bounded r ws l) o (getD (r .«next_page») o 0)))
+      (λ _. decide-and (decide-buddies ws M (limits-bounded r ws l) (m .1 .1 .0))
+      (λ _. decide-and (decide-orders (λ o. decide-eq (getD (r .«nr_pages») o 0) (blocks ws M e o)))
+      (λ _. decide-and (decide-orders (λ o. decide-eq (getD (r .«free_pages») o 0) (frees ws M e o))) (λ _. decide-true)))))))

@@ -1,5 +1,5 @@
--- Cases of the audit: region R of document 01 after set-up, one page, a small state, and states that break one line each.
-use Rattle.common.specs.Kit.{ℕ, _+_, _-_, _*_, _^_, Bool, true, false, cond, List, [], _∷_, _++_, map, set, take, replicate}
+-- Cases of the audit: region R of the customer's cases after set-up, one page, a small state, and states that break one line each.
+use Rattle.common.specs.Kit.{ℕ, _-_, _*_, _^_, Bool, true, false, cond, List, [], _∷_, _++_, map, set, take, replicate}
 use Rattle.words.specs.Word.{noPage, memOf}
 use Rattle.words.specs.declared.word.PageInfo.{PageInfo}
 use Rattle.pages.specs.Info.{freeInfo, allocatedInfo, slabInfo, compoundInfo, fileInfo, reservedInfo}

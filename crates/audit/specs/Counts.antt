@@ -1,8 +1,7 @@
 -- What the functions ask for, and the counts that they answer.
-use Rattle.common.specs.Kit.{ℕ, _+_, _-_, _≤_, _<_, _≡_, cond, List, eqb, length, getD, set}
-use Rattle.pages.specs.Said.{said}
+use Rattle.common.specs.Kit.{ℕ, _+_, _≤_, _<_, _≡_, Bool, List, length, getD, set}
 use Rattle.region.specs.Layout.{Limits}
-use Rattle.region.specs.Pages.{headOrder, freeOrder, sum}
+use Rattle.region.specs.Pages.{blocks, frees}
 use Rattle.region.specs.State.{room}
 use Rattle.region.specs.declared.HeapMemoryRegion.{HeapMemoryRegion}
 
@@ -20,12 +19,12 @@ pub record Within (ws : List ℕ) (a e : ℕ) : Type 0 where
 abbrev pub oneMore : List ℕ → ℕ → List ℕ
 oneMore l o = set l o (getD l o 0 + 1)
 
--- the list holds, order by order, how many of the pages a up to e have that order by f
-pub record Tally (f : ℕ → ℕ) (a e : ℕ) (l : List ℕ) : Type 0 where
+-- the list holds, order by order, what n says
+pub record Tally (n : ℕ → ℕ) (l : List ℕ) : Type 0 where
   pub long : length l ≡ 6
-  pub each : (o : ℕ) → o < 6 → getD l o 0 ≡ sum (λ p. cond (eqb (f p) o) 1 0) a (e - a)
+  pub each : (o : ℕ) → o < 6 → getD l o 0 ≡ n o
 
--- the counts of blocks and of free blocks
-pub record Counted (ws : List ℕ) (a e : ℕ) (bs fs : List ℕ) : Type 0 where
-  pub blocks : Tally (λ p. headOrder (said ws p)) a e bs
-  pub frees : Tally (λ p. freeOrder (said ws p)) a e fs
+-- the counts of blocks and of free blocks that start at pages of M below p
+pub record Tallies (ws : List ℕ) (M : ℕ → Bool) (p : ℕ) (bs fs : List ℕ) : Type 0 where
+  pub blocks : Tally (blocks ws M p) bs
+  pub frees : Tally (frees ws M p) fs

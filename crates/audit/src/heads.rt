@@ -1,16 +1,10 @@
 // What a page heads, by its word.
 ghost use mathlib.Core.Path.{_≡_};
-ghost use Rattle.region.specs.Pages.{goodItem, headOrder, freeOrder};
+ghost use Rattle.pages.specs.Meaning.{headOrder, freeOrder};
+use pages::good_item;
 use words::word::Decoded;
 use words::word::MAX_ORDER;
 use words::word::PageInfo;
-
-// Whether a slab page may have items of this size.
-pub fn good_item(item: u64) -> bool
-    ensures { λ r. ⌜ r ≡ goodItem item ⌝ }
-{
-    1 <= item
-}
 
 // The order of the block that a page heads; MAX_ORDER if it heads none.
 pub fn head_order(said: Decoded) -> usize

@@ -1,5 +1,5 @@
-// The audit: whether a region's record and words are sound (document 01, rule 8), for any record and any words, in time that grows with
-// the pages. For the public calls, which audit first. Below it stand `region`, for the record, and `pages`, for the words.
+// The audit: whether a region's record and words are sound (S1 to S13), for any record and any words, in time that grows with the pages. For the
+// public calls, which audit first. Below it stand `region`, for the record, and `pages`, for the words.
 ghost use mathlib.Core.Path.{_≡_};
 ghost use Rattle.audit.specs.Check.{every, keeps, numbers, soundB};
 ghost use Rattle.audit.specs.Counts.{InLimits};

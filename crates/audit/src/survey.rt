@@ -1,5 +1,6 @@
 // One walk from block to block: the tiling, the buddies, the counts and the lists at once.
 ghost use mathlib.Core.Path.{_≡_};
+ghost use Rattle.buddy.specs.Rules.{span};
 ghost use Rattle.audit.specs.Counts.{Within};
 ghost use Rattle.audit.specs.Survey.{upperHalf, NoteOk, Noted, Surveyed};
 use crate::counts::add_one;
@@ -46,7 +47,7 @@ fn note_free(
     at: &mut [usize; 6],
 ) -> bool
     requires { ⌜ NoteOk (now words) end order (now frees) (now at) ⌝ }
-    ensures { λ r. ⌜ Noted (now (words .entry)) from end before order pfn (now (frees .entry)) (now (at .entry)) r (now (frees .exit)) (now (at .exit)) ⌝ }
+    ensures { λ r. ⌜ Noted (now (words .entry)) (span from end) end before order pfn (now (frees .entry)) (now (at .entry)) r (now (frees .exit)) (now (at .exit)) ⌝ }
 {
     if MAX_ORDER <= order {
         return true;
@@ -62,7 +63,7 @@ fn note_free(
 // Walks from block to block, from `from` up to `end`; `heads` are those of the lists.
 pub fn survey(words: &[u64], from: usize, end: usize, heads: [usize; 6]) -> Findings
     requires { ⌜ Within (now words) from end ⌝ }
-    ensures { λ r. ⌜ Surveyed (now (words .entry)) from end heads (r .good) (r .blocks) (r .frees) (r .at) ⌝ }
+    ensures { λ r. ⌜ Surveyed (now (words .entry)) (span from end) end heads (r .good) (r .blocks) (r .frees) (r .at) ⌝ }
 {
     let mut blocks = [0usize; 6];
     let mut frees = [0usize; 6];

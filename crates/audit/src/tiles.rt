@@ -2,6 +2,7 @@
 ghost use mathlib.Core.Path.{_≡_};
 ghost use Prim.Native.Nat.{_≤_};
 ghost use lib.ListN.{length};
+ghost use Rattle.buddy.specs.Rules.{span};
 ghost use Rattle.audit.specs.Check.{allSay, blockAt};
 ghost use Rattle.audit.specs.Counts.{Within};
 use pages::size;
@@ -29,7 +30,7 @@ pub fn all_say(words: &[u64], from: usize, end: usize, info: PageInfo) -> bool
 // Whether `pfn` starts a block of `order` that ends at `end` or before.
 pub fn block_at(words: &[u64], end: usize, pfn: usize, order: usize) -> bool
     requires { ⌜ Within (now words) pfn end ⌝ }
-    ensures { λ r. ⌜ r ≡ blockAt (now (words .entry)) end pfn order ⌝ }
+    ensures { λ r. ⌜ r ≡ blockAt (now (words .entry)) (span pfn end) pfn order ⌝ }
 {
     if MAX_ORDER <= order {
         return false;

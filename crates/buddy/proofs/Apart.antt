@@ -3,9 +3,9 @@
 use Rattle.common.specs.Kit.{ℕ, suc, _≤_, _<_, _≡_, refl, sym, _∙_, _≢_, by-cases, Bool, true, false, _&&_, false≢true, T, eqb, eqb→eq, ℕ-discrete, arith, eq-eqb}
 use Rattle.common.proofs.Tests.{T-true, T-and}
 use Rattle.buddy.specs.Runs.{cell, first, buddy}
-use Rattle.buddy.specs.Heap.{free, used, Tag, tag, NoBuddies, Heap, Core, SoundHeap}
+use Rattle.buddy.specs.Heap.{free, used, Tag, tag, NoBuddies, Heap, Core, SoundHeap, isFree}
 use Rattle.buddy.specs.Steps.{paint, push, take, halve, merge}
-use Rattle.buddy.specs.Rules.{isFree, freeAt}
+use Rattle.buddy.specs.Rules.{freeAt}
 use Rattle.buddy.proofs.RunLaws.{cell-suc, cell-first, head-first, buddy-is}
 use Rattle.buddy.proofs.Tags.{order-of, kind-of, tag-path, used≢free, is-free}
 use Rattle.buddy.proofs.Paint.{paint-in, paint-out, BlocksOut, BlockOut, FreeBlock, free-block}

@@ -4,7 +4,8 @@ use Rattle.buddy.specs.Runs.{cell}
 use Rattle.buddy.specs.Heap.{Kind, Heap, SoundHeap, Clean}
 use Rattle.buddy.specs.Steps.{label}
 use Rattle.buddy.specs.Rules.{freeBlock, freePage, recount}
-use Rattle.buddy.specs.History.{Call, Outcome, call}
+use Rattle.buddy.specs.Request.{Request}
+use Rattle.buddy.specs.History.{Outcome, call}
 use Rattle.buddy.proofs.RunLaws.{cell-zero}
 use Rattle.buddy.proofs.Tags.{used≢free}
 use Rattle.buddy.proofs.Label.{label-off}
@@ -39,10 +40,10 @@ module _ {M : ℕ → Bool} {n : ℕ} (bound : (p : ℕ) → T (M p) → p < n) 
       let t = s .core .tiled in
       rw (f .order) (free-clean clean bound (5 - o) o (cell o p) (omega (arith, out-valid t f)) s (out-block t f))
 
-  pub call-clean : (x : Call) → Clean M (call M h x .heap)
+  pub call-clean : (x : Request) → Clean M (call M h x .heap)
   call-clean x = go x (call M h x) (called bound h s x)
     where
-      go : (x : Call) (r : Outcome) → Called M n h x r → Clean M (r .heap)
+      go : (x : Request) (r : Outcome) → Called M n h x r → Clean M (r .heap)
       go x _ refuse = clean
       go x _ (grant a r undo) = grant-clean (asks-valid a) r undo
       go _ _ (return f _) = free-page-clean f

@@ -4,7 +4,8 @@ use Rattle.common.specs.Kit.{ℕ, suc, _≤_, _<_, _≡_, refl, sym, _∙_, _�
 use Rattle.buddy.specs.Runs.{cell, first, start, Head, buddy}
 use Rattle.buddy.specs.Heap.{Kind, free, used, slab, file, Tag, Block, SoundHeap, Clean}
 use Rattle.buddy.specs.Rules.{setUp, span}
-use Rattle.buddy.specs.History.{Call, ask, askFile, askSlab, give, get, put, done, page, counted, Outcome, call, Moment, next, after, stillOut, gets, puts, grantedAs}
+use Rattle.buddy.specs.Request.{Request, forBlock, forFile, forSlab, on, toFree, toGet, toPut}
+use Rattle.buddy.specs.History.{done, page, counted, Outcome, call, Moment, next, after, stillOut, gets, puts, grantedAs}
 use Rattle.buddy.specs.Demand.{Free, Out, Stands, InOne, Clear, StillAs, Demand3, Returns}
 use Rattle.buddy.proofs.RunLaws.{cell-suc, cell-first, cell-start, head-start, head-is, buddy-half, buddy-not}
 use Rattle.buddy.proofs.Tags.{order-of, kind-of}
@@ -20,15 +21,15 @@ use Rattle.buddy.proofs.CleanCalls.{call-clean}
 use Rattle.buddy.proofs.Kept.{As, Kept, after-kept}
 
 -- the order that a call asks for; the calls that ask for no block never answer a page
-abbrev pub orderOf : Call → ℕ
-orderOf (ask o) = o
-orderOf askFile = 0
-orderOf (askSlab i) = 0
-orderOf (give p) = 0
-orderOf (get p) = 0
-orderOf (put p) = 0
+abbrev pub orderOf : Request → ℕ
+orderOf (forBlock o) = o
+orderOf forFile = 0
+orderOf (forSlab i) = 0
+orderOf (on toFree p) = 0
+orderOf (on toGet p) = 0
+orderOf (on toPut p) = 0
 
-asks-order : {x : Call} {o : ℕ} {k : Kind} → Asks x o k → orderOf x ≡ o
+asks-order : {x : Request} {o : ℕ} {k : Kind} → Asks x o k → orderOf x ≡ o
 asks-order (plain _) = refl
 asks-order filed = refl
 asks-order (slabbed _) = refl
@@ -88,7 +89,7 @@ module _ {M : ℕ → Bool} {n : ℕ} {m : Moment} (bound : (p : ℕ) → T (M p
         small : o ≤ 5
         small = order-small M at (kept .sound .core .tiled) p t
 
-  -- clear by the record is free by the tags
+  -- clear by the log is free by the tags
   pub clear-free : (o c : ℕ) → Clear M m o c → AllFree M at o c
   clear-free o c f q e = (
     f q e .0,
@@ -99,7 +100,7 @@ module _ {M : ℕ → Bool} {n : ℕ} {m : Moment} (bound : (p : ℕ) → T (M p
   pub free-clear : (o c : ℕ) → AllFree M at o c → Clear M m o c
   free-clear o c f q e = (f q e .0, λ j s x y. kept .real j s x .busy (sym (kind-of (same-tag j s q (says j s (inr x)) y .1)) ∙ f q e .1))
 
-  still-as : (s : ℕ) (now : Kind) → As (m .events) s now → StillAs M m (grantedAs (m .events) s) s now
+  still-as : (s : ℕ) (now : Kind) → As (m .log) s now → StillAs M m (grantedAs (m .log) s) s now
   still-as s free x = absurd x
   still-as s used x = rw x
   still-as s (slab i) x = rw x
@@ -124,7 +125,7 @@ module _ {M : ℕ → Bool} {n : ℕ} {m : Moment} (bound : (p : ℕ) → T (M p
     kinds = λ o s x. still-as s (at s .kind) (kept .kinds o s (kept .real o s x));
   }
 
-  returned : (p : ℕ) (x : Call) (r : Outcome) → Called M n (m .heap) x r → x ≡ give p → r .answer ≡ done → (o : ℕ) × Out M m o p
+  returned : (p : ℕ) (x : Request) (r : Outcome) → Called M n (m .heap) x r → x ≡ on toFree p → r .answer ≡ done → (o : ℕ) × Out M m o p
   returned p x _ refuse e d = never (cc)
   returned p x _ (grant _ _ _) e d = never (cc)
   returned p _ _ (return {p = q} {o = o} f _) e d = let s : q ≡ p = cc in (o, rw (← s) (kept .full o q f))
@@ -132,7 +133,7 @@ module _ {M : ℕ → Bool} {n : ℕ} {m : Moment} (bound : (p : ℕ) → T (M p
   returned p _ _ (less _) e d = never (cc)
   returned p _ _ (last _ _) e d = never (cc)
 
-  put-last : (p : ℕ) (x : Call) (r : Outcome) → Called M n (m .heap) x r → x ≡ put p → r .answer ≡ counted 0 → FilePage M at p 1
+  put-last : (p : ℕ) (x : Request) (r : Outcome) → Called M n (m .heap) x r → x ≡ on toPut p → r .answer ≡ counted 0 → FilePage M at p 1
   put-last p x _ refuse e d = never (cc)
   put-last p x _ (grant _ _ _) e d = never (cc)
   put-last p _ _ (return _ _) e d = never (cc)
@@ -141,8 +142,8 @@ module _ {M : ℕ → Bool} {n : ℕ} {m : Moment} (bound : (p : ℕ) → T (M p
   put-last p _ _ (last {p = q} f _) e d = let s : q ≡ p = cc in rw (← s) f
 
   -- an ordinary block or a slab page was granted as no file page
-  one-file : (p : ℕ) → T (M p) → (k : Kind) → at p .kind ≡ k → As (m .events) p k → grantedAs (m .events) p ≡ file 1
-      → puts (m .events) p ≡ gets (m .events) p → FilePage M at p 1
+  one-file : (p : ℕ) → T (M p) → (k : Kind) → at p .kind ≡ k → As (m .log) p k → grantedAs (m .log) p ≡ file 1
+      → puts (m .log) p ≡ gets (m .log) p → FilePage M at p 1
   one-file p t free e x g b = absurd x
   one-file p t used e x g b = never (cc)
   one-file p t (slab i) e x g b = never (cc)
@@ -151,11 +152,11 @@ module _ {M : ℕ → Bool} {n : ℕ} {m : Moment} (bound : (p : ℕ) → T (M p
   kept-returns : Returns M m
   kept-returns = record {
     frees = λ p. (
-      returned p (give p) _ (called bound (m .heap) (kept .sound) (give p)) refl,
+      returned p (on toFree p) _ (called bound (m .heap) (kept .sound) (on toFree p)) refl,
       λ x. rw (give-out (m .heap) (kept .real (x .0) p (x .1))),
     );
     last = λ p. (
-      λ d. let f = put-last p (put p) _ (called bound (m .heap) (kept .sound) (put p)) refl d in
+      λ d. let f = put-last p (on toPut p) _ (called bound (m .heap) (kept .sound) (on toPut p)) refl d in
           let x = rw (f .is) at (kept .kinds 0 p (file-out f)) in
           (kept .full 0 p (file-out f), x .0, omega (arith, x .1)),
       λ x. let f = kept .real 0 p (x .0) in
@@ -163,39 +164,39 @@ module _ {M : ℕ → Bool} {n : ℕ} {m : Moment} (bound : (p : ℕ) → T (M p
     );
   }
 
-  kept-clear : (x : Call) (p : ℕ) → call M (m .heap) x .answer ≡ page p → Head (orderOf x) p × Clear M m (orderOf x) (cell (orderOf x) p)
+  kept-clear : (x : Request) (p : ℕ) → call M (m .heap) x .answer ≡ page p → Head (orderOf x) p × Clear M m (orderOf x) (cell (orderOf x) p)
   kept-clear x p e = let r = paged bound (m .heap) (kept .sound) x p e in rw (asks-order (r .asks)) (r .head, free-clear _ _ (r .granted .was))
 
-  kept-all-back : ((o : ℕ) → stillOut (m .events) o ≡ []) → (p : ℕ) → T (M p) → at p .kind ≡ free
+  kept-all-back : ((o : ℕ) → stillOut (m .log) o ≡ []) → (p : ℕ) → T (M p) → at p .kind ≡ free
   kept-all-back none p t = by-cases (free? (at p .kind)) (λ e. e) (λ e. absurd (List·Memᴰ·not-nil (rw (none (at p .order)) at (busy-out p t e))))
 
 -- From here on: every history from a set-up on, the pages from a up to e being managed.
 pub bound : (a e p : ℕ) → T (span a e p) → p < e
 bound a e p t = T-span a e p t .1
 
-pub kept : (a e : ℕ) (cs : List Call) → Kept (span a e) e (after (span a e) (setUp a e .heap) cs)
+pub kept : (a e : ℕ) (cs : List Request) → Kept (span a e) e (after (span a e) (setUp a e .heap) cs)
 kept a e cs = after-kept (bound a e) (setUp a e .heap) (set-up a e .sound) (set-up a e .all-free) cs
 
-pub demand3 : (a e : ℕ) (cs : List Call) → Demand3 (span a e) (after (span a e) (setUp a e .heap) cs) e
+pub demand3 : (a e : ℕ) (cs : List Request) → Demand3 (span a e) (after (span a e) (setUp a e .heap) cs) e
 demand3 a e cs = kept-demand3 (bound a e) (kept a e cs)
 
-pub returns : (a e : ℕ) (cs : List Call) → Returns (span a e) (after (span a e) (setUp a e .heap) cs)
+pub returns : (a e : ℕ) (cs : List Request) → Returns (span a e) (after (span a e) (setUp a e .heap) cs)
 returns a e cs = kept-returns (bound a e) (kept a e cs)
 
-pub sound-always : (a e : ℕ) (cs : List Call) → SoundHeap (span a e) e (after (span a e) (setUp a e .heap) cs .heap)
+pub sound-always : (a e : ℕ) (cs : List Request) → SoundHeap (span a e) e (after (span a e) (setUp a e .heap) cs .heap)
 sound-always a e cs = kept a e cs .sound
 
-pub clean-always : (a e : ℕ) (cs : List Call) → Clean (span a e) (after (span a e) (setUp a e .heap) cs .heap)
+pub clean-always : (a e : ℕ) (cs : List Request) → Clean (span a e) (after (span a e) (setUp a e .heap) cs .heap)
 unfolding after next
 clean-always a e [] = set-up a e .clean
 clean-always a e (x ∷ cs) = call-clean (bound a e) _ (sound-always a e cs) (clean-always a e cs) x
 
 -- no page is granted that is still out
-pub grant-clear : (a e : ℕ) (cs : List Call) → let m = after (span a e) (setUp a e .heap) cs in
-    (x : Call) (p : ℕ) → call (span a e) (m .heap) x .answer ≡ page p → Head (orderOf x) p × Clear (span a e) m (orderOf x) (cell (orderOf x) p)
+pub grant-clear : (a e : ℕ) (cs : List Request) → let m = after (span a e) (setUp a e .heap) cs in
+    (x : Request) (p : ℕ) → call (span a e) (m .heap) x .answer ≡ page p → Head (orderOf x) p × Clear (span a e) m (orderOf x) (cell (orderOf x) p)
 grant-clear a e cs = kept-clear (bound a e) (kept a e cs)
 
 -- when all is back, all is free
-pub all-back : (a e : ℕ) (cs : List Call) → let m = after (span a e) (setUp a e .heap) cs in
-    ((o : ℕ) → stillOut (m .events) o ≡ []) → (p : ℕ) → T (span a e p) → m .heap .at p .kind ≡ free
+pub all-back : (a e : ℕ) (cs : List Request) → let m = after (span a e) (setUp a e .heap) cs in
+    ((o : ℕ) → stillOut (m .log) o ≡ []) → (p : ℕ) → T (span a e p) → m .heap .at p .kind ≡ free
 all-back a e cs = kept-all-back (bound a e) (kept a e cs)

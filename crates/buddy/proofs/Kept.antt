@@ -1,11 +1,13 @@
--- The invariant of histories: what is out on the heap is what the record says, once, and as what it says. Every call keeps it.
+-- The invariant of histories, `Kept`: the blocks that are out on the heap are those that are still out by the log, each of them once, and each is
+-- of the kind that the log granted it as. Every call keeps it.
 use Rattle.common.specs.Kit.{ℕ, suc, _+_, _≤_, _<_, _≡_, refl, sym, _∙_, _≢_, _↔_, ⊎-elim, by-cases, Bool, List, [], _∷_, _++_, List·Memᴰ, List·Memᴰ·head, List·Memᴰ·tail, List·Memᴰ·cases-cons, List·Memᴰ·not-nil, T, ℕ-discrete, arith, eq-eqb, ne-eqb}
 use Rattle.common.specs.Numbers.{Once}
 use Rattle.common.proofs.Lists.{mem-of-remove, not-removed, mem-remove, once-remove}
 use Rattle.buddy.specs.Runs.{cell, first}
 use Rattle.buddy.specs.Heap.{Kind, free, used, slab, file, Heap, SoundHeap}
 use Rattle.buddy.specs.Rules.{recount}
-use Rattle.buddy.specs.History.{Call, ask, askFile, askSlab, give, get, put, denied, page, Outcome, call, Event, took, gave, got, left, written, Moment, next, after, stillOut, gets, puts, grantedAs}
+use Rattle.buddy.specs.Request.{Request, on}
+use Rattle.buddy.specs.History.{Outcome, call, Event, took, gave, got, left, event, written, Moment, next, after, stillOut, gets, puts, grantedAs}
 use Rattle.buddy.specs.Demand.{Out}
 use Rattle.buddy.proofs.RunLaws.{cell-first, head-is, head-unique}
 use Rattle.buddy.proofs.Tags.{order-of}
@@ -14,7 +16,7 @@ use Rattle.buddy.proofs.Grant.{Granted}
 use Rattle.buddy.proofs.Pages.{OutHead, out-block, FilePage, file-out, recount-sound, recount-on, recount-off, recount-heads}
 use Rattle.buddy.proofs.Calls.{Asks, plain, filed, slabbed, granted-head, Called, refuse, grant, return, more, less, last, called}
 
--- what the record says of page p, if it is out as this
+-- what the log says of page p, if it is out as this
 abbrev pub As : List Event → ℕ → Kind → Type 0
 As es p free = ⊥
 As es p used = grantedAs es p ≡ used
@@ -25,10 +27,10 @@ pub record Kept (M : ℕ → Bool) (n : ℕ) (m : Moment) : Type 0 where
   pub sound : SoundHeap M n (m .heap)
   pub real : (o p : ℕ) → Out M m o p → OutHead M (m .heap .at) o p
   pub full : (o p : ℕ) → OutHead M (m .heap .at) o p → Out M m o p
-  pub once : (o : ℕ) → Once (stillOut (m .events) o)
-  pub kinds : (o p : ℕ) → OutHead M (m .heap .at) o p → As (m .events) p (m .heap .at p .kind)
+  pub once : (o : ℕ) → Once (stillOut (m .log) o)
+  pub kinds : (o p : ℕ) → OutHead M (m .heap .at) o p → As (m .log) p (m .heap .at p .kind)
 
--- records that say the same of page p
+-- logs that say the same of page p
 as-same : (es fs : List Event) (p : ℕ) → grantedAs fs p ≡ grantedAs es p → puts fs p ≡ puts es p → gets fs p ≡ gets es p
     → (k : Kind) → As es p k → As fs p k
 as-same es fs p g a b free x = x
@@ -36,14 +38,14 @@ as-same es fs p g a b used x = g ∙ x
 as-same es fs p g a b (slab i) x = g ∙ x
 as-same es fs p g a b (file i) x = (g ∙ x .0, omega (arith, x .1))
 
--- the record says at once what a block was granted as
-asks-as : {x : Call} {o : ℕ} {k : Kind} → Asks x o k → (es : List Event) (p : ℕ) → As (took k o p ∷ es) p k
+-- the log says at once what a block was granted as
+asks-as : {x : Request} {o : ℕ} {k : Kind} → Asks x o k → (es : List Event) (p : ℕ) → As (took k o p ∷ es) p k
 unfolding grantedAs puts gets
 asks-as (plain _) es p = rw (eq-eqb p p refl)
 asks-as filed es p = rw (eq-eqb p p refl) (refl, refl)
 asks-as (slabbed _) es p = rw (eq-eqb p p refl)
 
--- the record after a grant
+-- the log after a grant
 module _ (k : Kind) (o p : ℕ) (es : List Event) where
   took-here : (j : ℕ) → o ≡ j → stillOut (took k o p ∷ es) j ≡ p ∷ stillOut es j
   unfolding stillOut
@@ -57,13 +59,13 @@ module _ (k : Kind) (o p : ℕ) (es : List Event) where
   unfolding grantedAs puts gets
   took-as q e = as-same es _ q (rw (ne-eqb p q (λ x. e (sym x)))) (rw (ne-eqb p q (λ x. e (sym x)))) (rw (ne-eqb p q (λ x. e (sym x))))
 
-module _ {M : ℕ → Bool} {n : ℕ} {m : Moment} {x : Call} {o : ℕ} {k : Kind} {g : Heap} {c : ℕ} (kept : Kept M n m) (asks : Asks x o k)
+module _ {M : ℕ → Bool} {n : ℕ} {m : Moment} {x : Request} {o : ℕ} {k : Kind} {g : Heap} {c : ℕ} (kept : Kept M n m) (asks : Asks x o k)
     (r : Granted M n (m .heap) g o c k) where
   abbrev h : Heap
   h = m .heap
 
   abbrev es : List Event
-  es = m .events
+  es = m .log
 
   abbrev p : ℕ
   p = first o c
@@ -87,7 +89,7 @@ module _ {M : ℕ → Bool} {n : ℕ} {m : Moment} {x : Call} {o : ℕ} {k : Kin
   grant-full : (j q : ℕ) → List·Memᴰ q (stillOut es j) → List·Memᴰ q (stillOut (took k o p ∷ es) j)
   grant-full j q x = by-cases (ℕ-discrete o j) (λ e. rw (took-here k o p es j e) (List·Memᴰ·tail x)) (λ e. rw (took-other k o p es j e) x)
 
-  grant-kept : Kept M n (record { heap = g; events = took k o p ∷ es })
+  grant-kept : Kept M n (record { heap = g; log = took k o p ∷ es })
   grant-kept = record {
     sound = r .sound;
     real = λ j q x. by-cases (ℕ-discrete o j)
@@ -128,16 +130,16 @@ module _ {M : ℕ → Bool} {n : ℕ} {m : Moment} {o p : ℕ} {g : Heap} (kept 
       same : g .at q ≡ m .heap .at q
       same = r .others q (f .busy) off
 
-  return-kept : Kept M n (record { heap = g; events = gave p ∷ m .events })
+  return-kept : Kept M n (record { heap = g; log = gave p ∷ m .log })
   unfolding stillOut grantedAs puts gets
   return-kept = record {
     sound = r .sound;
-    real = λ j q x. stays j q (λ e. not-removed p (stillOut (m .events) j) (kept .once j) (rw e at x)) (kept .real j q (mem-of-remove p q _ x));
-    full = λ j q f. mem-remove p q (stillOut (m .events) j) (λ e. f .busy (r .on q (rw e))) (kept .full j q (back j q f));
-    once = λ j. once-remove p (stillOut (m .events) j) (kept .once j);
+    real = λ j q x. stays j q (λ e. not-removed p (stillOut (m .log) j) (kept .once j) (rw e at x)) (kept .real j q (mem-of-remove p q _ x));
+    full = λ j q f. mem-remove p q (stillOut (m .log) j) (λ e. f .busy (r .on q (rw e))) (kept .full j q (back j q f));
+    once = λ j. once-remove p (stillOut (m .log) j) (kept .once j);
     kinds = λ j q f. let b = back j q f in
         rw (r .others q (b .busy) (λ e. f .busy (r .on q e)))
-        (as-same (m .events) (gave p ∷ m .events) q refl refl refl (m .heap .at q .kind) (kept .kinds j q b));
+        (as-same (m .log) (gave p ∷ m .log) q refl refl refl (m .heap .at q .kind) (kept .kinds j q b));
   }
 
 -- what is written of a get, or of a put that is not the last: the count of page p goes from i to j, and of nothing else
@@ -170,51 +172,41 @@ left-counts p i = record {
 
 -- a get, or a put that is not the last
 recount-kept : {M : ℕ → Bool} {n : ℕ} {m : Moment} {e : Event} {p i j : ℕ} → Kept M n m → FilePage M (m .heap .at) p i → 1 ≤ j → Counts e p i j
-    → Kept M n (record { heap = recount (m .heap) p j; events = e ∷ m .events })
+    → Kept M n (record { heap = recount (m .heap) p j; log = e ∷ m .log })
 recount-kept {M} {n} {m} {e} {p} {i} {j} kept f₀ l c = record {
   sound = recount-sound (kept .sound) f₀ j l;
-  real = λ o q x. heads o q .0 (kept .real o q (rw (c .out (m .events) o) at x));
-  full = λ o q f. rw (c .out (m .events) o) (kept .full o q (heads o q .1 f));
-  once = λ o. rw (c .out (m .events) o) (kept .once o);
+  real = λ o q x. heads o q .0 (kept .real o q (rw (c .out (m .log) o) at x));
+  full = λ o q f. rw (c .out (m .log) o) (kept .full o q (heads o q .1 f));
+  once = λ o. rw (c .out (m .log) o) (kept .once o);
   kinds = λ o q f. by-cases (ℕ-discrete q p)
       (λ x. let was = rw (f₀ .is) at (kept .kinds 0 p (file-out f₀)) in
-      rw (x, recount-on (kept .sound) f₀ j) (c .granted (m .events) p ∙ was .0, c .on (m .events) (was .1)))
-      (λ x. rw (recount-off (kept .sound) f₀ j q x) (as-same (m .events) (e ∷ m .events) q (c .granted (m .events) q)
-      (c .puts-off (m .events) q x) (c .gets-off (m .events) q x) (m .heap .at q .kind) (kept .kinds o q (heads o q .1 f))));
+      rw (x, recount-on (kept .sound) f₀ j) (c .granted (m .log) p ∙ was .0, c .on (m .log) (was .1)))
+      (λ x. rw (recount-off (kept .sound) f₀ j q x) (as-same (m .log) (e ∷ m .log) q (c .granted (m .log) q)
+      (c .puts-off (m .log) q x) (c .gets-off (m .log) q x) (m .heap .at q .kind) (kept .kinds o q (heads o q .1 f))));
 }
   where
     heads : (o q : ℕ) → OutHead M (m .heap .at) o q ↔ OutHead M (recount (m .heap) p j .at) o q
     heads = recount-heads (kept .sound) f₀ j l
 
-written-denied : (x : Call) → written x denied ≡ []
-unfolding written
-written-denied (ask o) = refl
-written-denied askFile = refl
-written-denied (askSlab i) = refl
-written-denied (give p) = refl
-written-denied (get p) = refl
-written-denied (put p) = refl
-
-written-grant : {x : Call} {o : ℕ} {k : Kind} → Asks x o k → (p : ℕ) → written x (page p) ≡ took k o p ∷ []
-unfolding written
-written-grant (plain _) p = refl
-written-grant filed p = refl
-written-grant (slabbed _) p = refl
+event-grant : {x : Request} {o : ℕ} {k : Kind} → Asks x o k → (p : ℕ) → event x p ≡ took k o p
+event-grant (plain _) p = refl
+event-grant filed p = refl
+event-grant (slabbed _) p = refl
 
 module _ {M : ℕ → Bool} {n : ℕ} (bound : (p : ℕ) → T (M p) → p < n) where
-  next-kept : (m : Moment) (x : Call) → Kept M n m → Kept M n (next M m x)
+  next-kept : (m : Moment) (x : Request) → Kept M n m → Kept M n (next M m x)
   unfolding next written
   next-kept m x kept = go x (call M (m .heap) x) (called bound (m .heap) (kept .sound) x)
     where
-      go : (x : Call) (r : Outcome) → Called M n (m .heap) x r → Kept M n (record { heap = r .heap; events = written x (r .answer) ++ m .events })
-      go x _ refuse = rw (written-denied x) kept
-      go x _ (grant {o = o} {c = c} a r _) = rw (written-grant a (first o c)) (grant-kept kept a r)
+      go : (x : Request) (r : Outcome) → Called M n (m .heap) x r → Kept M n (record { heap = r .heap; log = written x (r .answer) ++ m .log })
+      go x _ refuse = kept
+      go x _ (grant {o = o} {c = c} a r _) = rw (event-grant a (first o c)) (grant-kept kept a r)
       go _ _ (return f r) = return-kept kept f r
       go _ _ (more {p} {i} f) = recount-kept kept f (omega arith) (got-counts p i)
       go _ _ (less {p} {i} f) = rw (ne-eqb (suc i) 0 (omega arith)) (recount-kept kept f (omega arith) (left-counts p (suc i)))
       go _ _ (last f r) = return-kept kept (file-out f) r
 
-  pub after-kept : (h : Heap) → SoundHeap M n h → ((p : ℕ) → T (M p) → h .at p .kind ≡ free) → (cs : List Call) → Kept M n (after M h cs)
+  pub after-kept : (h : Heap) → SoundHeap M n h → ((p : ℕ) → T (M p) → h .at p .kind ≡ free) → (cs : List Request) → Kept M n (after M h cs)
   unfolding after stillOut
   after-kept h s all [] = record {
     sound = s;

@@ -2,9 +2,9 @@
 use Rattle.common.specs.Kit.{ℕ, _-_, _≤_, _<_, _≡_, refl, sym, _∙_, _≢_, _↔_, by-cases, Bool, true, false, cond, _&&_, T, eqb, eqb→eq, ℕ-discrete, arith, eq-eqb}
 use Rattle.common.proofs.Tests.{by-test, T-true, T-and}
 use Rattle.buddy.specs.Runs.{cell, start, Head}
-use Rattle.buddy.specs.Heap.{Kind, free, used, slab, file, Tag, tag, Fits, Block, Tiled, Heap, SoundHeap}
+use Rattle.buddy.specs.Heap.{Kind, free, used, slab, file, Tag, tag, Fits, Block, Tiled, Heap, SoundHeap, isFree}
 use Rattle.buddy.specs.Steps.{label}
-use Rattle.buddy.specs.Rules.{Grant, refused, granted, allocate, freeBlock, isFree, outAt, freePage, grantAs, recount}
+use Rattle.buddy.specs.Rules.{Grant, refused, granted, allocate, freeBlock, outAt, freePage, grantAs, recount}
 use Rattle.buddy.proofs.RunLaws.{cell-zero, start-le, lt-end}
 use Rattle.buddy.proofs.Tags.{order-of, kind-of, tag-path, used≢free, is-free}
 use Rattle.buddy.proofs.Paint.{BlockOut}

@@ -1,7 +1,6 @@
 -- Kinds and tags: a tag is its order and its kind, and a kind is free or it is not.
-use Rattle.common.specs.Kit.{ℕ, _≡_, refl, ap, _≢_, T, arith}
-use Rattle.buddy.specs.Heap.{Kind, free, used, slab, file, Tag, tag}
-use Rattle.buddy.specs.Rules.{isFree}
+use Rattle.common.specs.Kit.{_≢_, ℕ, _≡_, refl, ap, T, arith}
+use Rattle.buddy.specs.Heap.{Kind, free, used, slab, file, Tag, tag, isFree}
 
 pub order-of : {v w : Tag} → v ≡ w → v .order ≡ w .order
 order-of e = ap (λ (x : Tag). x .order) e

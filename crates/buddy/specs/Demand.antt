@@ -4,7 +4,8 @@ use Rattle.common.specs.Numbers.{Once, count}
 use Rattle.buddy.specs.Runs.{cell, first, Head, buddy}
 use Rattle.buddy.specs.Heap.{Kind, free, used, slab, file}
 use Rattle.buddy.specs.Rules.{refused, allocate}
-use Rattle.buddy.specs.History.{Moment, stillOut, gets, puts, grantedAs, give, put, done, counted, call}
+use Rattle.buddy.specs.Request.{on, toFree, toPut}
+use Rattle.buddy.specs.History.{Moment, stillOut, gets, puts, grantedAs, done, counted, call}
 
 -- the pages of f o blocks of each order o below k
 unfoldable pub pagesIn : (ℕ → ℕ) → ℕ → ℕ
@@ -25,9 +26,9 @@ module _ (M : ℕ → Bool) (m : Moment) where
   abbrev pub Free : ℕ → ℕ → Type 0
   Free o s = (o ≤ 5) × List·Memᴰ s (m .heap .list o)
 
-  -- it is still out by the record
+  -- it is still out by the log
   abbrev pub Out : ℕ → ℕ → Type 0
-  Out o s = List·Memᴰ s (stillOut (m .events) o)
+  Out o s = List·Memᴰ s (stillOut (m .log) o)
 
   abbrev pub Stands : ℕ → ℕ → Type 0
   Stands o s = Free o s ⊎ Out o s
@@ -41,28 +42,28 @@ module _ (M : ℕ → Bool) (m : Moment) where
   StillAs free p now = ⊥
   StillAs used p now = now ≡ used
   StillAs (slab i) p now = now ≡ slab i
-  StillAs (file a) p now = (n : ℕ) × (now ≡ file n) × (n + puts (m .events) p ≡ 1 + gets (m .events) p)
+  StillAs (file a) p now = (n : ℕ) × (now ≡ file n) × (n + puts (m .log) p ≡ 1 + gets (m .log) p)
 
   -- demand 3, at one moment; all managed pages lie below n
   pub record Demand3 (n : ℕ) : Type 0 where
-    -- "the blocks still out by that record and the free blocks tile the managed pages, each page once"
+    -- "the blocks still out by that record and the free blocks tile the managed pages, each page once" (H4)
     pub tile : (p : ℕ) → T (M p) → InOne Free Out p
-    pub once : (o : ℕ) → Once (stillOut (m .events) o)
+    pub once : (o : ℕ) → Once (stillOut (m .log) o)
     pub aligned : (o s : ℕ) → Stands o s → Head o s
     pub inside : (o s q : ℕ) → Stands o s → cell o q ≡ cell o s → T (M q)
-    -- "the block totals add up to the managed pages, each count times its block's size"
+    -- "the block totals add up to the managed pages, each count times its block's size" (H5)
     pub totals : pagesIn (m .heap .blocks) 6 ≡ count M n
-    -- "no two free buddies below order 5 stand side by side"
+    -- "no two free buddies below order 5 stand side by side" (H6)
     pub apart : (o c : ℕ) → o < 5 → Free o (first o c) → Free o (first o (buddy c)) → ⊥
-    -- "a request for a valid order is refused for want of memory exactly when no aligned run of that many managed pages is clear of
-    -- blocks still out"
+    -- H7: "a request for a valid order is refused for want of memory exactly when no aligned run of that many managed pages is clear of blocks still
+    -- out"
     pub want : (o : ℕ) → o ≤ 5 → (allocate (m .heap) o ≡ refused) ↔ ((c : ℕ) → Clear o c → ⊥)
-    -- "a file page's count is 1 plus gets less puts since its grant"
-    pub kinds : (o s : ℕ) → Out o s → StillAs (grantedAs (m .events) s) s (m .heap .at s .kind)
+    -- "a file page's count is 1 plus gets less puts since its grant" (H8)
+    pub kinds : (o s : ℕ) → Out o s → StillAs (grantedAs (m .log) s) s (m .heap .at s .kind)
 
-  -- what a return is: a free succeeds exactly on a block that is out by the record, and a put answers 0 exactly on one that is out as a
-  -- file page and was put as often as it was got
+  -- what a return is: a free succeeds exactly on a block that is out by the log, and a put answers 0 exactly on one that is out as a file page and
+  -- was put as often as it was got (H10)
   pub record Returns : Type 0 where
-    pub frees : (p : ℕ) → (call M (m .heap) (give p) .answer ≡ done) ↔ ((o : ℕ) × Out o p)
-    pub last : (p : ℕ) → (call M (m .heap) (put p) .answer ≡ counted 0)
-        ↔ (Out 0 p × (grantedAs (m .events) p ≡ file 1) × (puts (m .events) p ≡ gets (m .events) p))
+    pub frees : (p : ℕ) → (call M (m .heap) (on toFree p) .answer ≡ done) ↔ ((o : ℕ) × Out o p)
+    pub last : (p : ℕ) → (call M (m .heap) (on toPut p) .answer ≡ counted 0)
+        ↔ (Out 0 p × (grantedAs (m .log) p ≡ file 1) × (puts (m .log) p ≡ gets (m .log) p))

@@ -1,6 +1,6 @@
 -- The heap, and when it is sound. The managed pages are a set M, given by a test, and not an interval: pages may be added later.
 -- Each page carries the tag of the block that covers it, so a block is a run whose pages have one tag of that order.
-use Rattle.common.specs.Kit.{ℕ, suc, _≤_, _<_, _≡_, Bool, _&&_, List, [], List·Memᴰ, T, eqb}
+use Rattle.common.specs.Kit.{ℕ, suc, _≤_, _<_, _≡_, Bool, true, false, _&&_, List, [], List·Memᴰ, T, eqb, leb}
 use Rattle.common.specs.Numbers.{Once, count}
 use Rattle.buddy.specs.Runs.{cell, start, Head}
 
@@ -22,11 +22,21 @@ pub record Heap : Type 0 where
   pub list : ℕ → List ℕ
   pub blocks : ℕ → ℕ
 
--- "Its head is Free or Allocated of order o, or, at order 0, a File with count 1 or more or a SlabPage with item 1 or more"
+abbrev pub isFree : Kind → Bool
+isFree free = true
+isFree used = false
+isFree (slab i) = false
+isFree (file n) = false
+
+-- an item size that a slab page may have (W16)
+abbrev pub goodItem : ℕ → Bool
+goodItem i = leb 1 i && leb i 65535
+
+-- what a block of order o may be: free or out; at order 0 also a file page with a count, or a slab page with a good item (S9)
 abbrev pub Fits : Kind → ℕ → Type 0
 Fits free o = o ≤ 5
 Fits used o = o ≤ 5
-Fits (slab i) o = (o ≡ 0) × (1 ≤ i)
+Fits (slab i) o = (o ≡ 0) × (goodItem i ≡ true)
 Fits (file n) o = (o ≡ 0) × (1 ≤ n)
 
 module _ (M : ℕ → Bool) (at : ℕ → Tag) where
@@ -36,7 +46,7 @@ module _ (M : ℕ → Bool) (at : ℕ → Tag) where
     pub inside : (q : ℕ) → cell (at p .order) q ≡ cell (at p .order) p → T (M q)
     pub same : (q : ℕ) → cell (at p .order) q ≡ cell (at p .order) p → at q ≡ at p
 
-  -- "Managed pages are tiled by blocks"
+  -- "Managed pages are tiled by blocks" (S9)
   abbrev pub Tiled : Type 0
   Tiled = (p : ℕ) → T (M p) → Block p
 
@@ -46,13 +56,13 @@ module _ (M : ℕ → Bool) (at : ℕ → Tag) where
     pub is : at p ≡ tag o free
     pub head : Head o p
 
-  -- "List o holds each free block of order o once"
+  -- "List o holds each free block of order o once" (S10)
   pub record Listed (o : ℕ) (l : List ℕ) : Type 0 where
     pub sound : (p : ℕ) → List·Memᴰ p l → FreeHead o p
     pub full : (p : ℕ) → FreeHead o p → List·Memᴰ p l
     pub once : Once l
 
-  -- "Below order 5 no two free blocks of one order are buddies": free pages of two halves of one run are in one half
+  -- "Below order 5 no two free blocks of one order are buddies" (S11): free pages of two halves of one run are in one half
   abbrev pub NoBuddies : Type 0
   NoBuddies = (o p q : ℕ) → o < 5 → T (M p) → T (M q) → at p ≡ tag o free → at q ≡ tag o free → cell (suc o) p ≡ cell (suc o) q → cell o p ≡ cell o q
 
@@ -61,7 +71,7 @@ module _ (M : ℕ → Bool) (at : ℕ → Tag) where
   heads o p = M p && (eqb (at p .order) o && eqb (start o p) p)
 
 -- A heap over the managed pages M, all below n, that is sound but for buddies: what every single step keeps.
--- "Both count arrays equal the counts of blocks and of free blocks"; the free blocks are counted by the lists.
+-- "Both count arrays equal the counts of blocks and of free blocks" (S12, S13); the free blocks are counted by the lists.
 pub record Core (M : ℕ → Bool) (n : ℕ) (h : Heap) : Type 0 where
   pub tiled : Tiled M (h .at)
   pub listed : (o : ℕ) → o ≤ 5 → Listed M (h .at) o (h .list o)

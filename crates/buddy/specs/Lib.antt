@@ -2,5 +2,6 @@ pub mod Runs
 pub mod Heap
 pub mod Steps
 pub mod Rules
+pub mod Request
 pub mod History
 pub mod Demand

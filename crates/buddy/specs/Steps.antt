@@ -9,7 +9,7 @@ use Rattle.buddy.specs.Heap.{Kind, free, used, Tag, tag, Heap}
 unfoldable pub paint : (ℕ → Tag) → ℕ → ℕ → Tag → ℕ → Tag
 paint at o c v q = cond (eqb (cell o q) c) v (at q)
 
--- "puts at the head": the block out becomes free, ahead of its list
+-- "puts at the head" (C21): the block out becomes free, ahead of its list
 unfoldable pub push : Heap → ℕ → ℕ → Heap
 push h o c = record {
   at = paint (h .at) o c (tag o free);
@@ -17,7 +17,7 @@ push h o c = record {
   blocks = h .blocks;
 }
 
--- "takes a named block out and keeps the order of the rest"
+-- "takes a named block out and keeps the order of the rest" (C20, C22)
 unfoldable pub take : Heap → ℕ → ℕ → Heap
 take h o c = record {
   at = paint (h .at) o c (tag o used);
@@ -33,11 +33,11 @@ halve h o c = record {
   blocks = update (update (h .blocks) (suc o) (h .blocks (suc o) - 1)) o (h .blocks o + 2);
 }
 
--- "split of a block puts its lower half, then its upper half, ahead of the next lower list": the lower half stands first
+-- "split of a block puts its lower half, then its upper half, ahead of the next lower list" (C30): the lower half stands first
 unfoldable pub split : Heap → ℕ → ℕ → Heap
 split h o c = push (push (halve h o c) o (c * 2 + 1)) o (c * 2)
 
--- "merge makes the lower page the head, one order up": the two halves of run c of order o + 1, both out, become one block out
+-- "merge makes the lower page the head, one order up" (C31): the two halves of run c of order o + 1, both out, become one block out
 unfoldable pub merge : Heap → ℕ → ℕ → Heap
 merge h o c = record {
   at = paint (h .at) (suc o) c (tag (suc o) used);

@@ -1,2 +1,2 @@
-// What the kit's library lacks and nothing here is about: tests, lists of numbers, functions changed at a place, counts.
-// For the specs and proofs of every other crate. It has no code and stands on the kit alone.
+// No code: general laws that the kit's library lacks, on tests, lists of numbers, functions changed at one place, and counts.
+// For the specs and proofs of every other crate. It knows nothing of heaps, and stands on the kit alone.

@@ -1,4 +1,4 @@
-// Granting a block: the search for a list, the split down to the order asked for, the grant (document 01, rule 4).
+// Granting a block: the search for a list, the split down to the order asked for, the grant (C40, C41).
 // For the public calls that grant. Below it stand the steps of `region`.
 ghost use mathlib.Core.Path.{_≡_};
 ghost use Prim.Native.Nat.{_-_, _≤_};

@@ -1,6 +1,6 @@
 pub mod Audited
 pub mod SetUps
-pub mod One
+pub mod Unique
 pub mod Sound
 pub mod Cases
 pub mod Useless

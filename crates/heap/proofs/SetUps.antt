@@ -4,21 +4,22 @@ use Rattle.common.proofs.Tests.{by-test, and-true}
 use Rattle.words.specs.declared.place.VirtAddr.{VirtAddr}
 use Rattle.buddy.specs.Rules.{setUp}
 use Rattle.buddy.proofs.Refill.{never}
-use Rattle.region.specs.Layout.{maxPages, allocPages, Limits}
-use Rattle.setup.specs.Steps.{bare as bareState, initMemory}
+use Rattle.region.specs.Layout.{maxPages, allocPages, bare, Limits}
+use Rattle.setup.specs.Steps.{initMemory}
 use Rattle.setup.proofs.Init.{init-image}
-use Rattle.sound_calls.specs.Told.{Told, ok, no, refusal, Result}
+use Rattle.sound_calls.specs.Answer.{ok, no, refusal, Result}
+use Rattle.sound_calls.specs.declared.Answer.{Answer}
 use Rattle.sound_calls.specs.Promise.{kept, became}
 use Rattle.sound_calls.specs.Code.{leaves}
 use Rattle.sound_calls.specs.declared.AllocError.{AllocError}
 use Rattle.sound_calls.specs.declared.Done.the-variants as Done
 use Rattle.sound_calls.proofs.Answers.{dones, told-one}
-use Rattle.heap.specs.Promise.{bare, emptyRegion, setUpTold, setUpPromise}
+use Rattle.heap.specs.Promise.{emptyRegion, setUpAnswer, setUpPromise}
 
 module _ (start n a words : ℕ) where
-  pub set-up-ways : (P : Told → Type 0) → (Limits start n a words → P (ok [])) → ((k : ℕ) → k ≢ 0 → P (no k [])) → P (setUpTold start n a words)
-  unfolding setUpTold
-  set-up-ways P sets refuses =
+  pub set-up-outcomes : (P : Answer → Type 0) → (Limits start n a words → P (ok [])) → ((k : ℕ) → k ≢ 0 → P (no k [])) → P (setUpAnswer start n a words)
+  unfolding setUpAnswer
+  set-up-outcomes P sets refuses =
       by-test (leb 1 n && leb n maxPages && eqb words n)
       (λ t. rw t (by-test (eqb (start % 4096) 0 && leb (start + 4096 * n) (2 ^ 64 - 1))
       (λ u. rw u (by-test (leb a (allocPages n))
@@ -38,20 +39,20 @@ module _ (start n a words : ℕ) where
       (λ u. rw u (refuses 2 (omega arith)))))
       (λ t. rw t (refuses 1 (omega arith)))
 
-  pub set-up-limits : setUpTold start n a words ≡ ok [] → Limits start n a words
-  set-up-limits = set-up-ways (λ t. t ≡ ok [] → Limits start n a words) (λ l _. l) (λ k some e. absurd (some (ap (λ (t : Told). t .number) e)))
+  pub set-up-limits : setUpAnswer start n a words ≡ ok [] → Limits start n a words
+  set-up-limits = set-up-outcomes (λ t. t ≡ ok [] → Limits start n a words) (λ l _. l) (λ k some e. absurd (some (ap (λ (t : Answer). t .number) e)))
 
-  set-up-refused : (e : AllocError) → setUpTold start n a words ≡ refusal e → eqb (setUpTold start n a words .number) 0 ≡ false
-  set-up-refused e = set-up-ways (λ t. t ≡ refusal e → eqb (t .number) 0 ≡ false)
+  set-up-refused : (e : AllocError) → setUpAnswer start n a words ≡ refusal e → eqb (setUpAnswer start n a words .number) 0 ≡ false
+  set-up-refused e = set-up-outcomes (λ t. t ≡ refusal e → eqb (t .number) 0 ≡ false)
       (λ _ x. let y = told-one dones Done.Ok (Done.Refused e) x in never (cc))
       (λ k some _. ne-eqb k 0 some)
 
 module _ (start : VirtAddr) (n a : ℕ) (ws : List ℕ) where
-  pub sets-code : setUpTold (start .0) n a (length ws) ≡ ok [] → leaves (ok []) (initMemory start n a ws) ≡ setUpPromise start n a ws
-  unfolding setUpPromise bareState
+  pub sets-code : setUpAnswer (start .0) n a (length ws) ≡ ok [] → leaves (ok []) (initMemory start n a ws) ≡ setUpPromise start n a ws
+  unfolding setUpPromise
   sets-code e = rw e (ap (leaves (ok [])) (init-image start n a ws (set-up-limits (start .0) n a (length ws) e) .leaves))
 
-  pub refuses-code : (e : AllocError) → setUpTold (start .0) n a (length ws) ≡ refusal e → kept emptyRegion ws (refusal e) ≡ setUpPromise start n a ws
+  pub refuses-code : (e : AllocError) → setUpAnswer (start .0) n a (length ws) ≡ refusal e → kept emptyRegion ws (refusal e) ≡ setUpPromise start n a ws
   unfolding setUpPromise
   refuses-code e x = rw (set-up-refused (start .0) n a (length ws) e x, x)
 
@@ -60,6 +61,6 @@ module _ (start : VirtAddr) (n a : ℕ) (ws : List ℕ) where
       → (Limits (start .0) n a (length ws) → P (became (bare start n a) (setUp a (allocPages n) .heap) (ok [])))
       → ((k : ℕ) → k ≢ 0 → P (kept emptyRegion ws (no k []))) → P (setUpPromise start n a ws)
   unfolding setUpPromise
-  set-up-results P sets refuses = set-up-ways (start .0) n a (length ws)
+  set-up-results P sets refuses = set-up-outcomes (start .0) n a (length ws)
       (λ t. P (cond (eqb (t .number) 0) (became (bare start n a) (setUp a (allocPages n) .heap) t) (kept emptyRegion ws t)))
       sets (λ k some. rw (ne-eqb k 0 some) (refuses k some))

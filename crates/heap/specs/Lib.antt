@@ -1,2 +1,1 @@
-pub mod Fields
 pub mod Promise

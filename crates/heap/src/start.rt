@@ -1,11 +1,11 @@
 // Set-up of a region.
 ghost use mathlib.Core.Path.{_≡_};
-ghost use Rattle.sound_calls.specs.Told.{result, done};
-ghost use Rattle.heap.specs.Promise.{emptyRegion, setUpTold, setUpPromise};
+ghost use Rattle.sound_calls.specs.Answer.{result, done};
+ghost use Rattle.heap.specs.Promise.{emptyRegion, setUpAnswer, setUpPromise};
 use region::HeapMemoryRegion;
 use region::alloc_pages;
+use region::bare_region;
 use region::pages_good;
-use setup::bare_region;
 use setup::init_memory;
 use sound_calls::AllocError;
 use sound_calls::Done;
@@ -22,7 +22,7 @@ pub fn empty_region() -> HeapMemoryRegion
 
 // Whether a region can be set up with these numbers, and if not, the first refusal.
 fn set_up_answer(start_virt: VirtAddr, page_count: usize, allocated: usize, words: usize) -> Done
-    ensures { λ r. ⌜ done r ≡ setUpTold («start_virt» .0) «page_count» allocated words ⌝ }
+    ensures { λ r. ⌜ done r ≡ setUpAnswer («start_virt» .0) «page_count» allocated words ⌝ }
 {
     let start = start_virt.0;
     if !pages_good(page_count) {

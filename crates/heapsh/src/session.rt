@@ -40,8 +40,7 @@ pub fn serve(buffer: &mut [u64], input: &mut [u8], out: &mut [u8]) {
 
 // Reads a block and writes the answers to its lines.
 fn turn(session: Session, buffer: &mut [u64], input: &mut [u8], out: &mut [u8]) -> Session {
-    let shell = session.shell;
-    let kept = session.kept;
+    let Session { shell, kept, .. } = session;
     let end = read(input, kept);
     if end <= kept {
         return Session {
@@ -50,12 +49,11 @@ fn turn(session: Session, buffer: &mut [u64], input: &mut [u8], out: &mut [u8]) 
             ended: true,
         };
     }
-    let answered = block(shell, &input[0..end], buffer, out);
-    let left = keep(input, answered.at, end);
-    let next = answered.shell;
+    let Answered { shell, at } = block(shell, &input[0..end], buffer, out);
+    let kept = keep(input, at, end);
     Session {
-        shell: written(next, out),
-        kept: left,
+        shell: written(shell, out),
+        kept,
         ended: false,
     }
 }
@@ -82,11 +80,11 @@ fn last(shell: Shell, line: &[u8], buffer: &mut [u64], out: &mut [u8]) -> Shell 
 
 // All answers so far are written.
 fn written(shell: Shell, out: &[u8]) -> Shell {
-    let region = shell.region;
+    let Shell { region, lent, used } = shell;
     Shell {
         region,
-        lent: shell.lent,
-        used: flush(out, shell.used),
+        lent,
+        used: flush(out, used),
     }
 }
 
@@ -105,8 +103,8 @@ fn block(before: Shell, text: &[u8], buffer: &mut [u64], out: &mut [u8]) -> Answ
     Answered { shell, at }
 }
 
-// Moves the unfinished line that begins at `from` to the front, and answers its length. Of a line that is too long only so much is kept
-// that it stays too long.
+// Moves the unfinished line, bytes `from` up to `to`, to the front of the buffer, and answers its length there. A line longer than LONGEST
+// is cut to LONGEST bytes and one: it is still too long, so it will be answered `bad`, and the buffer has room for more input.
 fn keep(input: &mut [u8], from: usize, to: usize) -> usize
     requires { ⌜ (from ≤ to) × (to ≤ length (now input)) ⌝ }
 {

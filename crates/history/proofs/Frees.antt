@@ -1,4 +1,4 @@
--- How many blocks and pages are free, and how many are out: a free block stands on its list once, and a block out in the record once.
+-- How many blocks and pages are free, and how many are out: a free block stands on its list once, and a block out in the log once.
 use Rattle.common.specs.Kit.{ℕ, zero, suc, _+_, _≤_, _<_, _≡_, refl, sym, _∙_, _≢_, _↔_, Bool, true, false, not, _&&_, List, [], _∷_, List·Memᴰ, List·Memᴰ·head, T, eqb, eqb→eq, length, arith}
 use Rattle.common.specs.Numbers.{remove, Once, one, count}
 use Rattle.common.proofs.Tests.{by-test, T-and, and-T}
@@ -6,8 +6,7 @@ use Rattle.common.proofs.Lists.{mem-of-remove, not-removed, mem-remove, once-re
 use Rattle.common.proofs.Counts.{count-parts}
 use Rattle.common.proofs.Bounds.{length-remove}
 use Rattle.buddy.specs.Runs.{Head}
-use Rattle.buddy.specs.Heap.{Kind, free, Tag, Listed, heads}
-use Rattle.buddy.specs.Rules.{isFree}
+use Rattle.buddy.specs.Heap.{Kind, free, Tag, Listed, heads, isFree}
 use Rattle.buddy.specs.History.{Moment, stillOut}
 use Rattle.buddy.specs.Demand.{pagesIn, Clear}
 use Rattle.buddy.proofs.RunLaws.{cell-zero}
@@ -80,8 +79,8 @@ module _ {M : ℕ → Bool} {n : ℕ} {m : Moment} (bound : (p : ℕ) → T (M p
       k : Listed M at o (m .heap .list o)
       k = kept .sound .core .listed o l
 
-  out-long : (o : ℕ) → length (stillOut (m .events) o) ≡ count (heads outs at o) n
-  out-long o = once-count _ n (stillOut (m .events) o) (kept .once o)
+  out-long : (o : ℕ) → length (stillOut (m .log) o) ≡ count (heads outs at o) n
+  out-long o = once-count _ n (stillOut (m .log) o) (kept .once o)
       (λ p x.
       let f = kept .real o p x in
       let a : T (outs p) = and-T (M p) _ (f .managed) (busy-T (at p .kind) (f .busy)) in
@@ -95,7 +94,7 @@ module _ {M : ℕ → Bool} {n : ℕ} {m : Moment} (bound : (p : ℕ) → T (M p
       busy-T k b = by-test (isFree k) (λ e. absurd (b (is-free k (rw e tt)))) (λ e. rw e tt)
 
   -- every block is free or out
-  pub blocks-are : (o : ℕ) → o ≤ 5 → m .heap .blocks o ≡ length (m .heap .list o) + length (stillOut (m .events) o)
+  pub blocks-are : (o : ℕ) → o ≤ 5 → m .heap .blocks o ≡ length (m .heap .list o) + length (stillOut (m .log) o)
   blocks-are o l = rw (list-long o l, out-long o)
       (kept .sound .core .counted o l ∙ count-parts _ _ _ n (λ p. two-parts (M p) (isFree (at p .kind)) _))
 

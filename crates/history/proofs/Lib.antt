@@ -1,8 +1,8 @@
 pub mod Renamed
-pub mod Plays
+pub mod Follows
 pub mod Mirror
-pub mod Now
-pub mod Told
+pub mod Mirrored
+pub mod Answers
 pub mod Demand3
 pub mod Frees
 pub mod Results

@@ -1,4 +1,4 @@
--- A record with other names for pages: what is read off it is what is read off the record itself, if no two pages have one name.
+-- A log with other names for pages: what is read off it is what is read off the log itself, if no two pages have one name.
 use Rattle.common.specs.Kit.{ℕ, _≡_, refl, sym, ap, _∙_, by-cases, List, [], _∷_, map, eqb, ℕ-discrete, eq-eqb, ne-eqb}
 use mathlib.Core.List.{Memᴰ·of-map}
 use Rattle.common.specs.Numbers.{remove, Once}

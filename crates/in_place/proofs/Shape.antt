@@ -23,7 +23,10 @@ use denote.Triple.Spec.{tripleOf}
 use denote.Triple.Statement.{Contract}
 use denote.Triple.Clauses.{Ended, Clauses, closing}
 use Rattle.region.specs.declared.HeapMemoryRegion.{HeapMemoryRegion}
-use Rattle.sound_calls.specs.Told.{Told, Result, result}
+use Rattle.buddy.specs.Request.{Request}
+use Rattle.sound_calls.specs.Answer.{result}
+use Rattle.sound_calls.specs.declared.Answer.{Answer}
+use Rattle.heap.specs.Promise.{promise}
 use Rattle.in_place.proofs.Data.{Kind, field, Of, row, region}
 
 abbrev pub pair : (R Q : Kind) (D : Type 0) → (D → Of R) → (D → Of Q) → D → Denots (rows (field R ∷ field Q ∷ []))
@@ -128,11 +131,11 @@ module _ (t : Thin) where
         return)))));
   }
 
--- over the heap's record: the call tells what is promised, and leaves the record and the words so
+-- over the heap's record: the call answers what is promised of its request, and leaves the record and the words so
 abbrev pub heap-thin : (P Q : Kind) (struct : Sym) (D : Type 0) (rest : D → HeapMemoryRegion) (answer : D → Of Q)
     → ((c d : D) → pair region Q D rest answer c ≡ pair region Q D rest answer d → c ≡ d) → Name
-    → (Of Q → Told) → (HeapMemoryRegion → List ℕ → Of P → Result) → Thin
-heap-thin P Q struct D rest answer one callee told promise = record {
+    → (Of Q → Answer) → (Of P → Request) → Thin
+heap-thin P Q struct D rest answer one callee tell asked = record {
   R = region;
   P = P;
   Q = Q;
@@ -142,5 +145,5 @@ heap-thin P Q struct D rest answer one callee told promise = record {
   answer = answer;
   one = one;
   callee = callee;
-  Says = λ h ws x y h′ ws′. result (told y) h′ ws′ ≡ promise h ws x;
+  Says = λ h ws x y h′ ws′. result (tell y) h′ ws′ ≡ promise h ws (asked x);
 }

@@ -1,3 +1,4 @@
 pub mod Info
 pub mod Said
+pub mod Meaning
 pub mod Fill

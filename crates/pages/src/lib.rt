@@ -4,6 +4,7 @@ ghost use mathlib.Core.Path.{_≡_};
 ghost use Prim.Native.Nat.{_+_, _<_, _≤_, _^_};
 ghost use lib.ListN.{length, set};
 ghost use Rattle.words.specs.Word.{memOf};
+ghost use Rattle.buddy.specs.Heap.{goodItem};
 ghost use Rattle.pages.specs.Said.{said, nextIn};
 ghost use Rattle.pages.specs.Fill.{BlockIn, fill, mark, init};
 use words::word::CompoundInfo;
@@ -42,6 +43,17 @@ pub fn next_free_pfn(words: &[u64], pfn: usize) -> usize
         return NO_PAGE;
     };
     fi.next_page
+}
+
+// Whether a slab page may have items of this size.
+pub fn good_item(item_size: u64) -> bool
+    ensures { λ r. ⌜ r ≡ goodItem «item_size» ⌝ }
+{
+    if item_size == 0 {
+        false
+    } else {
+        item_size <= PageStorageType::SLAB_MASK
+    }
 }
 
 // The pages of a block.

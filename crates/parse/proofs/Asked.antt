@@ -2,7 +2,7 @@
 use Rattle.common.specs.Kit.{ℕ, zero, suc, _+_, _≤_, _≡_, refl, cond, _&&_, and-false, List, [], _∷_, map, leb, length, getD, set, replicate, zero-add, add-one, arith, le-leb, lt-leb}
 use lib.Seq.{sets}
 use Rattle.parse.specs.declared.input.Number.the-variants.{Is, Bad}
-use Rattle.parse.specs.declared.input.Request.{Request}
+use Rattle.parse.specs.declared.input.Command.{Command}
 use Rattle.parse.specs.Line.{nameOf, saysAt, saysFrom, allGood, value, none, asked}
 
 -- the name of the request when i words are read: the first one's, also before it is read
@@ -11,7 +11,7 @@ requestOf zero values ws = nameOf (getD ws 0 [])
 requestOf (suc i) values ws = getD values 0 0
 
 -- the request that goes on from `count` words, whose values stand in `values`
-unfoldable pub askedFrom : ℕ → List ℕ → List (List ℕ) → Request
+unfoldable pub askedFrom : ℕ → List ℕ → List (List ℕ) → Command
 askedFrom count values ws =
     let says = saysFrom (requestOf count values ws) count ws in
     cond (leb (length ws + count) 4 && allGood says)

@@ -4,7 +4,7 @@ use Rattle.common.specs.Kit.{ℕ, _-_, _≡_, refl, List, [], _∷_, _++_, map,
 use Prim.Native.Char.{code}
 use Prim.Native.String.{String, [] as end, _∷_ as _then_}
 use Rattle.parse.specs.Line.{wordsOf, numberOf, nameOf, saysAt, asked, none, parsed}
-use Rattle.parse.specs.declared.input.Request.{Request}
+use Rattle.parse.specs.declared.input.Command.{Command}
 use Rattle.parse.specs.Names as Name
 
 -- a text's bytes
@@ -13,11 +13,11 @@ bytes end = []
 bytes (c then s) = code c ∷ bytes s
 
 -- a name, and what it is asked with
-request : List ℕ → Request
+request : List ℕ → Command
 request ws = record { count = length ws; values = ws ++ replicate (4 - length ws) 0 }
 
 -- a line for each name
-named : List (String × Request)
+named : List (String × Command)
 named =
     ("words 4096", request (Name.words ∷ 4096 ∷ []))
     ∷ ("setup 65536 512 2", request (Name.setup ∷ 65536 ∷ 512 ∷ 2 ∷ []))
@@ -48,7 +48,7 @@ named =
     ∷ []
 
 -- blanks before, between and after; the largest number, and one more; an upper-case digit; a fifth word; nothing
-odd : List (String × Request)
+odd : List (String × Command)
 odd =
     ("\tpoke  3 0ff \r", request (Name.poke ∷ 3 ∷ 255 ∷ []))
     ∷ ("order 18446744073709551615", request (Name.order ∷ 18446744073709551615 ∷ []))
@@ -58,7 +58,7 @@ odd =
     ∷ ("", none)
     ∷ []
 
-said : List (String × Request) → List (String × Request)
+said : List (String × Command) → List (String × Command)
 said = map (λ x. (x .0, parsed (bytes (x .0))))
 
 names : said named ≡ named

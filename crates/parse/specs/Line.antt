@@ -5,7 +5,7 @@ use mathlib.Core.Bool.{Bool·beq}
 use Rattle.parse.specs.Names.{decode, poke, field}
 use Rattle.parse.specs.declared.input.Number.{Number}
 use Rattle.parse.specs.declared.input.Number.the-variants.{Is, Bad}
-use Rattle.parse.specs.declared.input.Request.{Request}
+use Rattle.parse.specs.declared.input.Command.{Command}
 
 -- space, tab, vertical tab, form feed, carriage return; a newline is in no line
 abbrev pub blank : ℕ → Bool
@@ -64,7 +64,7 @@ saysAt request i w =
     (numberOf 10 20 w))))
 
 -- no request
-abbrev pub none : Request
+abbrev pub none : Command
 none = record { count = 0; values = replicate 4 0 }
 
 -- what the words from the one number i on say
@@ -85,7 +85,7 @@ allGood [] = true
 allGood (n ∷ ns) = good n && allGood ns
 
 -- the request of words: at most four, and none of them bad; values that are not there are 0
-unfoldable pub asked : List (List ℕ) → Request
+unfoldable pub asked : List (List ℕ) → Command
 asked ws =
     let says = saysFrom (nameOf (getD ws 0 [])) 0 ws in
     cond (leb (length ws) 4 && allGood says)
@@ -93,5 +93,5 @@ asked ws =
     none
 
 -- a line has at most 200 bytes
-unfoldable pub parsed : List ℕ → Request
+unfoldable pub parsed : List ℕ → Command
 parsed line = cond (leb (length line) 200) (asked (wordsOf line)) none

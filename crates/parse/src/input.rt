@@ -9,7 +9,7 @@ use crate::names;
 pub const LONGEST: usize = 200;
 
 // What the `count` words of a line say, the name first. No words: no request.
-pub struct Request {
+pub struct Command {
     pub count: usize,
     pub values: [u64; 4],
 }
@@ -21,7 +21,7 @@ enum Number {
 }
 
 // Takes a line apart: at most four words, and none of them bad.
-pub fn parse(line: &[u8]) -> Request
+pub fn parse(line: &[u8]) -> Command
     ensures { λ r. ⌜ r ≡ parsed (now (line .entry)) ⌝ }
 {
     if LONGEST < line.len() {
@@ -34,7 +34,7 @@ pub fn parse(line: &[u8]) -> Request
         let blanks = run(rest, true);
         rest = &rest[blanks..];
         if rest.len() == 0 {
-            return Request { count, values };
+            return Command { count, values };
         }
         let n = run(rest, false);
         let Number::Is(value) = word(values[0], count, &rest[0..n]) else {
@@ -47,13 +47,13 @@ pub fn parse(line: &[u8]) -> Request
     if run(rest, true) < rest.len() {
         return none();
     }
-    Request { count, values }
+    Command { count, values }
 }
 
-fn none() -> Request
+fn none() -> Command
     ensures { λ r. ⌜ r ≡ none ⌝ }
 {
-    Request {
+    Command {
         count: 0,
         values: [0; 4],
     }

@@ -5,7 +5,7 @@ use Rattle.common.proofs.Lists.{remove-same, remove-other}
 use Rattle.words.specs.Word.{noPage}
 use Rattle.pages.specs.Said.{said, nextIn}
 use Rattle.region.specs.State.{pageBefore, WalkOk}
-use Rattle.region.specs.Image.{headOr, nextAfter}
+use Rattle.refine.specs.Image.{headOr, nextAfter}
 use Rattle.region.specs.declared.lists.Found.the-variants.{At}
 use Rattle.refine.proofs.Links.{after-same, after-other, Links}
 

@@ -1,8 +1,10 @@
--- The document's buddy of a page is the first page of the buddy of its run.
-use Rattle.common.specs.Kit.{ℕ, _+_, _-_, _*_, _%_, _^_, _≡_, sym, _∙_, by-cases, pow-pos, ℕ-discrete, arith, eq-eqb, ne-eqb}
+-- Runs by the numbers of their pages: the buddy of a page, as S11 has it, is the first page of the buddy of its run, a head is a multiple of its
+-- size, and the pages of a run are those from its first page on.
+use Rattle.common.specs.Kit.{ℕ, _+_, _-_, _*_, _%_, _^_, _≤_, _<_, _≡_, sym, _∙_, by-cases, pow-pos, ℕ-discrete, arith, eq-eqb, ne-eqb}
 use native.Mathlib.Nat.{add-comm, mul-mod-left}
 use lib.Pow.{shl-shr, mod-pow-add, split}
 use Rattle.buddy.specs.Runs.{cell, first, Head, buddy}
+use Rattle.buddy.proofs.RunLaws.{cell-first, start-le, lt-end, cell-between}
 use Rattle.region.specs.Pages.{buddyOf}
 
 -- the part of a run's first page below twice its size
@@ -32,3 +34,11 @@ head-mod o p e = omega (arith, split p o)
 pub mod-head : (o p : ℕ) → Head o p → p % 2 ^ o ≡ 0
 unfolding first cell
 mod-head o p h = omega (arith, split p o)
+
+-- the pages of run c of order o, by their numbers
+module _ (o c q : ℕ) where
+  pub run-at : cell o q ≡ c → (first o c ≤ q) × (q < first o c + 2 ^ o)
+  run-at e = rw (← e) (start-le o q, lt-end o q)
+
+  pub run-in : first o c ≤ q → q < first o c + 2 ^ o → cell o q ≡ c
+  run-in a b = let is = cell-first o c in rw is at (cell-between o (first o c) q (rw is a) (rw is b))

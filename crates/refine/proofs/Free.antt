@@ -7,22 +7,22 @@ use Rattle.buddy.specs.Rules.{freeAt, freeBlock}
 use Rattle.buddy.proofs.Paint.{BlockOut}
 use Rattle.buddy.proofs.Free.{join, freeBlock-stop, freeBlock-up, buddy-free, pair-out, join-out, join-sound, free-result}
 use Rattle.region.specs.Steps.{joins, join as joinState, TryOk, freeFrom, FreeOk}
-use Rattle.region.specs.Image.{regionOf, image}
+use Rattle.refine.specs.Image.{regionOf, image}
 use Rattle.region.specs.declared.HeapMemoryRegion.{HeapMemoryRegion}
-use Rattle.refine.specs.Fine.{Fine}
+use Rattle.refine.specs.Fit.{SoundFit}
 use Rattle.region.proofs.Limits.{pages-small}
 use Rattle.refine.proofs.Shown.{words-long}
 use Rattle.refine.proofs.Halves.{first-above, lower-page}
-use Rattle.refine.proofs.Step.{Lent, Step, Rule, bound, cut-small, run-below}
+use Rattle.refine.proofs.Step.{Lent, Step, Rule, cut-small, run-below}
 use Rattle.refine.proofs.Put.{put-image}
 use Rattle.refine.proofs.Join.{JoinOk, joins-true, joins-image, join-image}
 
 module _ {M : ℕ → Bool} {r : HeapMemoryRegion} (lent : Lent r) where
-  module _ {h : Heap} (f : Fine M r h) {o c : ℕ} (out : BlockOut M (h .at) o c) where
+  module _ {h : Heap} (f : SoundFit M r h) {o c : ℕ} (out : BlockOut M (h .at) o c) where
     turn-image : o < 5 → freeAt M h o (first o (buddy c)) ≡ true
         → Step M r (JoinOk (first o c) o (image r h)) (joinState (first o c) o (image r h)) (join h o c)
     turn-image valid is = join-image (f .fits) lent o c valid
-        (buddy-free (bound (f .fits)) (f .sound) valid out is) (pair-out (bound (f .fits)) (f .sound) valid out is)
+        (buddy-free (f .fits .within) (f .sound) valid out is) (pair-out (f .fits .within) (f .sound) valid out is)
 
     pub try-ok : TryOk (first o c) o (image r h)
     unfolding regionOf
@@ -40,7 +40,7 @@ module _ {M : ℕ → Bool} {r : HeapMemoryRegion} (lent : Lent r) where
         joined : joins (first o c) o (image r h) ≡ true → JoinOk (first o c) o (image r h)
         joined e = let valid = joins-true (f .fits) lent o (first o c) e .0 in turn-image valid (sym (joins-image (f .fits) lent o c valid) ∙ e) .ok
 
-  free-steps : (left o c : ℕ) {h : Heap} → left + o ≡ 5 → Fine M r h → BlockOut M (h .at) o c
+  free-steps : (left o c : ℕ) {h : Heap} → left + o ≡ 5 → SoundFit M r h → BlockOut M (h .at) o c
       → Step M r (FreeOk left (first o c) o (image r h)) (freeFrom left (first o c) o (image r h)) (freeBlock M left h o c)
   unfolding FreeOk freeFrom freeBlock
   free-steps zero o c l f out =
@@ -51,8 +51,8 @@ module _ {M : ℕ → Bool} {r : HeapMemoryRegion} (lent : Lent r) where
       let valid : o < 5 = omega arith in
       let e : joins (first o c) o (image r h) ≡ true = joins-image (f .fits) lent o c valid ∙ is in
       let turn = turn-image f out valid is in
-      let fine : Fine M r (join h o c) = record { fits = turn .fits; sound = join-sound (bound (f .fits)) (f .sound) valid out is } in
-      let s = free-steps left (suc o) (c / 2) (omega arith) fine (join-out (bound (f .fits)) (f .sound) valid out is) in
+      let fit : SoundFit M r (join h o c) = record { fits = turn .fits; sound = join-sound (f .fits .within) (f .sound) valid out is } in
+      let s = free-steps left (suc o) (c / 2) (omega arith) fit (join-out (f .fits .within) (f .sound) valid out is) in
       rw (freeBlock-up M left h o c is, e, lower-page o c, turn .leaves)
       (record { ok = (try-ok f out, (λ _. s .ok, λ x. absurd (false≢true (sym x)))); leaves = s .leaves; fits = s .fits }))
       (λ is.
@@ -61,10 +61,10 @@ module _ {M : ℕ → Bool} {r : HeapMemoryRegion} (lent : Lent r) where
       rw (freeBlock-stop M left h o c is, e)
       (record { ok = (try-ok f out, (λ x. absurd (false≢true x), λ _. s .ok)); leaves = s .leaves; fits = s .fits }))
 
-pub free-image : {M : ℕ → Bool} {r : HeapMemoryRegion} {h : Heap} {o c : ℕ} → Fine M r h → Lent r → BlockOut M (h .at) o c
+pub free-image : {M : ℕ → Bool} {r : HeapMemoryRegion} {h : Heap} {o c : ℕ} → SoundFit M r h → Lent r → BlockOut M (h .at) o c
     → Rule M r (FreeOk (5 - o) (first o c) o (image r h)) (freeFrom (5 - o) (first o c) o (image r h)) (freeBlock M (5 - o) h o c)
 free-image {h = h} {o = o} {c = c} f lent out =
     let l : 5 - o + o ≡ 5 = omega (arith, cut-small (f .fits) (out .cut)) in
     let s = free-steps lent (5 - o) o c l f out in
-    let freed = free-result (bound (f .fits)) (5 - o) h o c l (f .sound) out in
-    record { ok = s .ok; leaves = s .leaves; fine = record { fits = s .fits; sound = freed .sound } }
+    let freed = free-result (f .fits .within) (5 - o) h o c l (f .sound) out in
+    record { ok = s .ok; leaves = s .leaves; fit = record { fits = s .fits; sound = freed .sound } }

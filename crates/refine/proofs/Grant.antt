@@ -10,11 +10,11 @@ use Rattle.buddy.proofs.Grant.{InHand, hand-out, Answers, allocate-answers}
 use Rattle.pages.specs.Info.{allocatedInfo}
 use Rattle.region.specs.Layout.{endOf}
 use Rattle.region.specs.Steps.{write, refill as refillState, RefillOk, grantPage, grant, GrantOk}
-use Rattle.region.specs.Image.{headInfo, image}
+use Rattle.refine.specs.Image.{headInfo, image}
 use Rattle.region.specs.declared.HeapMemoryRegion.{HeapMemoryRegion}
 use Rattle.region.specs.declared.lists.Found.the-variants.{At, Nothing}
-use Rattle.refine.specs.Fine.{Fits, Fine}
-use Rattle.refine.proofs.Step.{Lent, Step, bound}
+use Rattle.refine.specs.Fit.{Fits, SoundFit}
+use Rattle.refine.proofs.Step.{Lent, Step}
 use Rattle.refine.proofs.Listed.{list-free}
 use Rattle.refine.proofs.Take.{Takes, take-none, take-image}
 use Rattle.refine.proofs.Label.{label-image, hand-image}
@@ -33,7 +33,7 @@ pub record Granted (M : ℕ → Bool) (r : HeapMemoryRegion) (h : Heap) (o : ℕ
   pub leaves : grant o (allocatedInfo o) (image r h) ≡ image r g
   pub labels : (k : Kind) → k ≢ free → (next : ℕ) → grant o (headInfo k o next) (image r h) ≡ image r (label g o c k)
   pub hand : InHand M (g .at) o c
-  pub fine : Fine M r g
+  pub fit : SoundFit M r g
 
 abbrev pub Grants : (ℕ → Bool) → HeapMemoryRegion → Heap → ℕ → Grant → Type 0
 Grants M r h o refused = Denied r h o
@@ -94,9 +94,9 @@ module _ {M : ℕ → Bool} {r : HeapMemoryRegion} {h : Heap} (f : Fits M r h) (
       let s = refill-image f lent o valid k p ps l e empty in
       subst (Way M r h o) (sym (granted-head s) ∙ refill-down o k h p ps e) (grant-some s)
 
-pub grant-image : {M : ℕ → Bool} {r : HeapMemoryRegion} {h : Heap} → Fine M r h → Lent r → (o : ℕ) → o ≤ 5 → Grants M r h o (allocate h o)
+pub grant-image : {M : ℕ → Bool} {r : HeapMemoryRegion} {h : Heap} → SoundFit M r h → Lent r → (o : ℕ) → o ≤ 5 → Grants M r h o (allocate h o)
 grant-image {M} {r} {h} f lent o valid = go (allocate h o) (grant-way (f .fits) lent o valid (allocate h o) (allocated h o))
-    (allocate-answers (f .sound) (bound (f .fits)) o valid)
+    (allocate-answers (f .sound) (f .fits .within) o valid)
   where
     go : (a : Grant) → Way M r h o a → Answers M (endOf r) h o used a → Grants M r h o a
     go refused w _ = w
@@ -106,7 +106,7 @@ grant-image {M} {r} {h} f lent o valid = go (allocate h o) (grant-way (f .fits) 
       leaves = w .writes (allocatedInfo o) ∙ hand-image (w .fits) hand;
       labels = λ k busy next. w .writes (headInfo k o next) ∙ label-image (w .fits) (hand-out hand) k busy next;
       hand = hand;
-      fine = record { fits = w .fits; sound = was .sound };
+      fit = record { fits = w .fits; sound = was .sound };
     }
       where
         hand : InHand M (g .at) o c

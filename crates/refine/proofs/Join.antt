@@ -10,19 +10,19 @@ use Rattle.buddy.proofs.Paint.{BlocksOut, FreeBlock}
 use Rattle.buddy.proofs.Apart.{freeAt-true, freeAt-false}
 use Rattle.buddy.proofs.Free.{join}
 use Rattle.pages.specs.Said.{said}
+use Rattle.pages.specs.Meaning.{freeOrder}
 use Rattle.region.specs.Layout.{endOf}
-use Rattle.region.specs.Pages.{freeOrder, buddyOf}
+use Rattle.region.specs.Pages.{buddyOf}
 use Rattle.region.specs.State.{State, pull, PullOk, lower, merge as mergeState, MergeOk}
 use Rattle.region.specs.Steps.{neighbor, joins, join as joinState}
-use Rattle.region.specs.Image.{regionOf, wordsOf, image}
+use Rattle.refine.specs.Image.{regionOf, wordsOf, image}
 use Rattle.region.specs.declared.HeapMemoryRegion.{HeapMemoryRegion}
-use Rattle.refine.specs.Fine.{managed, Fits}
-use Rattle.refine.proofs.Shown.{shown-boot, shown-in, shown-meta, entry-off, words-say}
-use Rattle.refine.proofs.Told.{says-free, free-told}
+use Rattle.refine.specs.Fit.{Fits}
+use Rattle.refine.proofs.Shown.{shown-meta, off-shown, words-say}
+use Rattle.refine.proofs.WordsSay.{image-says, says-free, free-told}
 use Rattle.refine.proofs.Buddies.{buddy-page}
 use Rattle.refine.proofs.Halves.{lower-page}
-use Rattle.refine.proofs.Step.{Lent, Step, bound}
-use Rattle.refine.proofs.Listed.{image-says}
+use Rattle.refine.proofs.Step.{Lent, Step}
 use Rattle.refine.proofs.Pull.{Pulls, pull-image}
 use Rattle.refine.proofs.Merge.{merge-image}
 
@@ -34,11 +34,9 @@ pub record JoinOk (p o : ℕ) (s : State) : Type 0 where
 module _ {M : ℕ → Bool} {r : HeapMemoryRegion} {h : Heap} (f : Fits M r h) (lent : Lent r) where
   -- a page of no block never says Free
   off-said : (q : ℕ) → (T (M q) → ⊥) → q < r .«page_count» → freeOrder (said (wordsOf r h) q) ≡ 6
-  off-said q out l = ap freeOrder (words-say M r h lent f q l) ∙ by-cases (decLt q (r .allocated))
-      (λ x. rw (shown-boot (r .allocated) (endOf r) h q x))
-      (λ x. by-cases (decLt q (endOf r))
-      (λ y. rw (shown-in (r .allocated) (endOf r) h q (omega arith) y, entry-off h q (f .clean .tags q out)))
-      (λ y. rw (shown-meta (r .allocated) (endOf r) h q (omega arith) (omega arith))))
+  off-said q out l = ap freeOrder (words-say f lent q l) ∙ by-cases (decLt q (endOf r))
+      (λ y. rw (off-shown f q out y))
+      (λ y. rw (shown-meta (endOf r) h q (omega arith)))
 
   free-said : (o q : ℕ) → o ≤ 5 → q < r .«page_count» → freeOrder (said (wordsOf r h) q) ≡ o → FreeHead M (h .at) o q
   free-said o q valid l e = by-test (M q)
@@ -57,7 +55,7 @@ module _ {M : ℕ → Bool} {r : HeapMemoryRegion} {h : Heap} (f : Fits M r h) (
     pub joins-free : o < 5 → FreeHead M (h .at) o (buddyOf o p) → joins p o (image r h) ≡ true
     unfolding joins neighbor regionOf
     joins-free valid b =
-        let l : buddyOf o p < r .«page_count» = omega (arith, bound f (buddyOf o p) (b .managed)) in
+        let l : buddyOf o p < r .«page_count» = omega (arith, f .within (buddyOf o p) (b .managed)) in
         rw (lt-ltb o 5 valid, lt-ltb (buddyOf o p) (r .«page_count») l, says-free (image-says f lent) b, eq-eqb o o refl)
 
   pub joins-image : (o c : ℕ) → o < 5 → joins (first o c) o (image r h) ≡ freeAt M h o (first o (buddy c))

@@ -10,11 +10,12 @@ use Rattle.buddy.proofs.Grant.{InHand}
 use Rattle.pages.specs.Info.{allocatedInfo}
 use Rattle.region.specs.State.{st}
 use Rattle.region.specs.Steps.{write}
-use Rattle.region.specs.Image.{nextAfter, headInfo, regionOf, image}
+use Rattle.refine.specs.Image.{nextAfter, headInfo, regionOf, image}
 use Rattle.region.specs.declared.HeapMemoryRegion.{HeapMemoryRegion}
-use Rattle.refine.specs.Fine.{Holds, Fits, Fine}
-use Rattle.refine.proofs.Words.{head-same, entry-first, words-set, words-paint}
-use Rattle.refine.proofs.Step.{cut-within, paint-fits}
+use Rattle.refine.specs.Fit.{Holds, Fits, SoundFit}
+use Rattle.refine.proofs.Meanings.{head-same}
+use Rattle.refine.proofs.Words.{entry-first, words-set, words-paint}
+use Rattle.refine.proofs.Step.{paint-fits}
 
 module _ {M : ℕ → Bool} {r : HeapMemoryRegion} {h : Heap} (f : Fits M r h) {o c : ℕ} where
   pub label-image : BlockOut M (h .at) o c → (k : Kind) → k ≢ free → (next : ℕ)
@@ -22,18 +23,18 @@ module _ {M : ℕ → Bool} {r : HeapMemoryRegion} {h : Heap} (f : Fits M r h) {
   unfolding label regionOf
   label-image out k busy next = rw (
     head-same k o next (nextAfter (first o c) (h .list o)) (λ e. absurd (busy e)),
-    words-paint r h (label h o c k) o c k (cut-within f (out .cut)) (λ _. refl) (λ _ _ _ _. refl),
+    words-paint f (label h o c k) o c k (out .cut) (λ _. refl) (λ _ _ _ _. refl),
   )
 
   -- of a block out as an ordinary one
   pub hand-image : InHand M (h .at) o c → write (first o c) (allocatedInfo o) (image r h) ≡ image r h
   hand-image hand = ap (st (regionOf r h)) (words-set r h h (first o c) (allocatedInfo o) (f .within _ (hand .managed _ (cell-first o c)))
-      (entry-first h o (first o c) used (hand .is _ (cell-first o c)) (head-first o c)) (λ _ _ _. refl))
+      (entry-first h o (first o c) used (hand .is _ (cell-first o c)) (head-first o c)) (λ _ _. refl))
 
-pub label-fine : {M : ℕ → Bool} {r : HeapMemoryRegion} {h : Heap} {o c : ℕ} → Fine M r h → BlockOut M (h .at) o c
-    → (k : Kind) → Rattle.buddy.specs.Heap.Fits k o → k ≢ free → Holds k → Fine M r (label h o c k)
+pub label-fit : {M : ℕ → Bool} {r : HeapMemoryRegion} {h : Heap} {o c : ℕ} → SoundFit M r h → BlockOut M (h .at) o c
+    → (k : Kind) → Rattle.buddy.specs.Heap.Fits k o → k ≢ free → Holds k → SoundFit M r (label h o c k)
 unfolding label
-label-fine {o = o} {c = c} f out k fits busy holds = let s = label-sound (f .sound) fits busy out in record {
+label-fit {o = o} {c = c} f out k fits busy holds = let s = label-sound (f .sound) fits busy out in record {
   fits = paint-fits (f .fits) o o c k (out .cut .managed) holds (s .core) (record { lists = λ _ _. refl; counts = λ _ _. refl }) (λ _. refl);
   sound = s;
 }

@@ -3,7 +3,7 @@ use Rattle.common.specs.Kit.{ℕ, _≡_, refl, sym, ap, _∙_, _≢_, _⊎_, in
 use Rattle.common.specs.Numbers.{Once}
 use Rattle.words.specs.Word.{noPage}
 use Rattle.pages.specs.Said.{said, nextIn}
-use Rattle.region.specs.Image.{headOr, nextAfter, walk}
+use Rattle.refine.specs.Image.{headOr, nextAfter, walk}
 
 module _ (p x : ℕ) (xs : List ℕ) where
   pub after-same : x ≡ p → nextAfter p (x ∷ xs) ≡ headOr xs

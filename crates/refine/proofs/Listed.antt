@@ -3,27 +3,24 @@ use Rattle.common.specs.Kit.{ℕ, _-_, _≤_, _<_, _≡_, refl, ap, _∙_, _≢
 use Rattle.common.specs.Numbers.{remove}
 use Rattle.common.proofs.Bounds.{length-remove}
 use Rattle.words.specs.Word.{noPage}
-use Rattle.words.specs.declared.word.Decoded.the-variants.{Info}
 use Rattle.buddy.specs.Runs.{first}
 use Rattle.buddy.specs.Heap.{used, FreeHead, Heap}
 use Rattle.buddy.specs.Steps.{take}
 use Rattle.buddy.proofs.RunLaws.{cell-first, head-first}
-use Rattle.buddy.proofs.Spans.{T-span}
 use Rattle.buddy.proofs.Paint.{FreeBlock, free-cut}
 use Rattle.buddy.proofs.Steps.{take-core}
 use Rattle.buddy.proofs.Clean.{take-high}
 use Rattle.pages.specs.Said.{said, nextIn}
 use Rattle.region.specs.Layout.{endOf}
 use Rattle.region.specs.State.{freesIn, withList}
-use Rattle.region.specs.Image.{headOr, regionOf, wordsOf, image}
+use Rattle.refine.specs.Image.{headOr, regionOf, wordsOf, image}
 use Rattle.region.specs.declared.HeapMemoryRegion.{HeapMemoryRegion}
-use Rattle.refine.specs.Fine.{Fits}
+use Rattle.refine.specs.Fit.{Fits}
 use Rattle.region.proofs.Limits.{pages-small}
 use Rattle.refine.proofs.Links.{Links}
-use Rattle.refine.proofs.Shown.{shown-in, words-say}
-use Rattle.refine.proofs.Told.{Says, links-list}
+use Rattle.refine.proofs.WordsSay.{image-says, links-list}
 use Rattle.refine.proofs.Record.{frees-image, region-list}
-use Rattle.refine.proofs.Step.{Lent, bound, cut-small, paint-fits}
+use Rattle.refine.proofs.Step.{Lent, cut-small, paint-fits}
 
 module _ {M : ℕ → Bool} {r : HeapMemoryRegion} {h : Heap} (f : Fits M r h) where
   module _ (o p : ℕ) (valid : o ≤ 5) (on : List·Memᴰ p (h .list o)) where
@@ -31,7 +28,7 @@ module _ {M : ℕ → Bool} {r : HeapMemoryRegion} {h : Heap} (f : Fits M r h) w
     list-free = f .core .listed o valid .sound p on
 
     pub list-below : p < endOf r
-    list-below = bound f p (list-free .managed)
+    list-below = f .within p (list-free .managed)
 
   -- the free block c of order o
   module _ {o c : ℕ} (b : FreeBlock M (h .at) o c) where
@@ -56,14 +53,8 @@ module _ {M : ℕ → Bool} {r : HeapMemoryRegion} {h : Heap} (f : Fits M r h) w
 
   -- the words of the lists' pages link them
   module _ (lent : Lent r) where
-    pub image-says : Says M (wordsOf r h) h
-    image-says = record {
-      each = λ p m. let b = T-span (r .allocated) (endOf r) p (f .within p m) in
-          words-say M r h lent f p (omega arith) ∙ ap Info (shown-in (r .allocated) (endOf r) h p (b .0) (b .1));
-    }
-
     pub list-links : (o : ℕ) → o ≤ 5 → Links (λ p. nextIn (said (wordsOf r h) p)) (h .list o)
-    list-links o valid = links-list image-says o (f .core .listed o valid)
+    list-links o valid = links-list (image-says f lent) o (f .core .listed o valid)
 
     pub list-some : (o p : ℕ) → o ≤ 5 → List·Memᴰ p (h .list o) → p ≢ noPage
     list-some o p valid on = omega (arith, list-below o p valid on, pages-small (r .«page_count») (lent .most))

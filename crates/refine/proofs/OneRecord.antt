@@ -2,20 +2,21 @@
 -- words, and the head of a list is the one page of it that follows no other. So damage to the other numbers alone is seen. The words do not name
 -- the start; and a boot page's word is that of a block out, so a record that counts one for the other is sound too (`cases` in `audit`). No audit
 -- can see these two. These are results.
-use Rattle.common.specs.Kit.{ℕ, _+_, _-_, _*_, _%_, _^_, _≤_, _<_, _≡_, refl, sym, _∙_, _≢_, ⊎-elim, List, [], _∷_, List·Memᴰ, List·Memᴰ·head, List·Memᴰ·tail, List·Memᴰ·cases-cons, List·Memᴰ·not-nil, length, getD, ext-getD, arith}
+use Rattle.common.specs.Kit.{ℕ, _+_, _-_, _*_, _%_, _^_, _≤_, _<_, _≡_, refl, sym, _∙_, subst, _≢_, ⊎-elim, Bool, List, [], _∷_, List·Memᴰ, List·Memᴰ·head, List·Memᴰ·tail, List·Memᴰ·cases-cons, List·Memᴰ·not-nil, T, getD, arith}
 use Rattle.common.specs.Numbers.{Once}
 use Rattle.words.specs.Word.{noPage}
 use Rattle.words.specs.declared.place.VirtAddr.{VirtAddr}
 use Rattle.pages.specs.Said.{said, nextIn}
-use Rattle.region.specs.Layout.{endOf}
-use Rattle.region.specs.Pages.{FreeList}
+use Rattle.region.specs.Layout.{allocPages, managed}
+use Rattle.region.specs.Pages.{FreeList, blocks, frees}
 use Rattle.region.specs.Sound.{Sound}
-use Rattle.region.specs.Image.{headOr, nextAfter, Typed}
 use Rattle.region.specs.declared.HeapMemoryRegion.{HeapMemoryRegion}
 use Rattle.region.proofs.Limits.{pages-small}
+use Rattle.refine.specs.Image.{headOr, nextAfter, Typed}
+use Rattle.refine.proofs.Managed.{managed-below, managed-place}
 use Rattle.refine.proofs.Links.{after-tail, Links, links-after}
-use Rattle.refine.proofs.Sums.{occurs-once}
-use Rattle.refine.proofs.FreeLists.{linked-head, linked-links, linked-free, linked-full}
+use Rattle.refine.proofs.FreeLists.{linked-head, linked-links, linked-free, linked-full, linked-once}
+use Rattle.refine.proofs.OneImage.{region-path}
 
 module _ (f : ℕ → ℕ) where
   -- a page behind the head follows some page of the list
@@ -41,10 +42,10 @@ module _ (f : ℕ → ℕ) where
           let at-x : nextAfter (p .0) (x ∷ l) ≡ x = sym (links-after f (x ∷ l) k (p .0) (from (p .0) (p .1))) ∙ p .2 in
           ⊎-elim (λ e. some x (List·Memᴰ·head refl) (sym at-x ∙ e)) (λ n. u .0 (rw at-x at n)) (after-tail (p .0) x l)
 
-pub one-head : {ws : List ℕ} {a e o x y : ℕ} → e ≤ noPage → FreeList ws a e o x → FreeList ws a e o y → x ≡ y
-one-head {ws} small f g = linked-head f ∙ heads-same (λ p. nextIn (said ws p)) (f .list) (g .list) (linked-links f) (linked-links g)
-    (occurs-once (f .list) (λ p m. f .once p (linked-free f p m)))
-    (λ p m. let b = linked-free f p m in omega arith)
+pub one-head : {ws : List ℕ} {M : ℕ → Bool} {o x y : ℕ} → ((p : ℕ) → T (M p) → p < noPage) → FreeList ws M o x → FreeList ws M o y → x ≡ y
+one-head {ws} low f g = linked-head f ∙ heads-same (λ p. nextIn (said ws p)) (f .list) (g .list) (linked-links f) (linked-links g)
+    (linked-once f)
+    (λ p m. let b = low p (linked-free f p m .managed) in omega arith)
     (λ p m. linked-full g p (linked-free f p m))
     (λ p m. linked-full f p (linked-free g p m))
     ∙ sym (linked-head g)
@@ -52,26 +53,19 @@ one-head {ws} small f g = linked-head f ∙ heads-same (λ p. nextIn (said ws p)
 -- ONE RECORD
 pub one-record : (r s : HeapMemoryRegion) (ws : List ℕ) → Typed r ws → Typed s ws → Sound r ws → Sound s ws
     → r .«start_virt» ≡ s .«start_virt» → r .allocated ≡ s .allocated → r ≡ s
-one-record r s ws t u x y a c = λ i. record {
-  «start_virt» = a i;
-  «page_count» = b i;
-  allocated = c i;
-  «nr_pages» = six (r .«nr_pages») (s .«nr_pages») (t .nr) (u .nr) (λ o l. (rw (b, c) at (x .totals o l)) ∙ sym (y .totals o l)) i;
-  «free_pages» = six (r .«free_pages») (s .«free_pages») (t .frees) (u .frees) (λ o l. (rw (b, c) at (x .free o l)) ∙ sym (y .free o l)) i;
-  «next_page» = six (r .«next_page») (s .«next_page») (t .heads) (u .heads) (λ o l. one-head small (list o l) (y .lists o l)) i;
-}
+one-record r s ws t u x y a c = region-path t u a b c
+    (λ o l. x .totals o l ∙ (λ i. blocks ws (same i) (allocPages (b i)) o) ∙ sym (y .totals o l))
+    (λ o l. x .free o l ∙ (λ i. frees ws (same i) (allocPages (b i)) o) ∙ sym (y .free o l))
+    (λ o l. one-head low (subst (λ (M : ℕ → Bool). FreeList ws M o (getD (r .«next_page») o 0)) same (x .lists o l)) (y .lists o l))
   where
     b : r .«page_count» ≡ s .«page_count»
     b = sym (x .limits .long) ∙ y .limits .long
 
-    six : (v w : List ℕ) → length v ≡ 6 → length w ≡ 6 → ((o : ℕ) → o < 6 → getD v o 0 ≡ getD w o 0) → v ≡ w
-    six v w m n same = ext-getD 0 v w (m ∙ sym n) (λ o l. same o (omega arith))
+    same : managed r ws ≡ managed s ws
+    same = managed-place r s ws ws b c
 
-    small : endOf s ≤ noPage
-    small = omega (arith, pages-small (s .«page_count») (y .limits .most))
-
-    list : (o : ℕ) → o < 6 → FreeList ws (s .allocated) (endOf s) o (getD (r .«next_page») o 0)
-    list o l = rw (b, c) at (x .lists o l)
+    low : (p : ℕ) → T (managed s ws p) → p < noPage
+    low p m = omega (arith, managed-below s ws p m, pages-small (s .«page_count») (y .limits .most))
 
 -- the region at another start
 abbrev pub movedTo : VirtAddr → HeapMemoryRegion → HeapMemoryRegion

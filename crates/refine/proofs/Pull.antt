@@ -13,16 +13,16 @@ use Rattle.buddy.proofs.Paint.{FreeBlock, free-cut, paint-in, paint-out}
 use Rattle.pages.specs.Info.{freeInfo, allocatedInfo}
 use Rattle.pages.specs.Said.{said, nextIn}
 use Rattle.region.specs.State.{headIn, before, cut, pull, pulls, PullOk}
-use Rattle.region.specs.Image.{headOr, nextAfter, wordsOf, image}
+use Rattle.refine.specs.Image.{headOr, nextAfter, wordsOf, image}
 use Rattle.region.specs.declared.HeapMemoryRegion.{HeapMemoryRegion}
 use Rattle.region.specs.declared.lists.Found.the-variants.{At}
-use Rattle.refine.specs.Fine.{Fits}
+use Rattle.refine.specs.Fit.{Fits}
 use Rattle.refine.proofs.Shown.{words-long}
-use Rattle.refine.proofs.Told.{says-free}
+use Rattle.refine.proofs.WordsSay.{image-says, says-free}
 use Rattle.refine.proofs.Record.{head-image, frees-image}
 use Rattle.refine.proofs.Words.{entry-first, entry-same, words-set, words-paint}
-use Rattle.refine.proofs.Step.{Lent, Call, cut-within}
-use Rattle.refine.proofs.Listed.{image-says, list-links, list-free, list-below, list-some, free-small, free-listed, take-region, take-fits}
+use Rattle.refine.proofs.Step.{Lent, Call}
+use Rattle.refine.proofs.Listed.{list-links, list-free, list-below, list-some, free-small, free-listed, take-region, take-fits}
 use Rattle.refine.proofs.Take.{Takes, take-image}
 use Rattle.refine.proofs.Before.{Walked, walked}
 
@@ -88,10 +88,10 @@ module _ {M : ℕ → Bool} {r : HeapMemoryRegion} {h : Heap} (f : Fits M r h) (
       unfolding take label
       cut-words = set-comm (wordsOf r h) q p _ _ (w .before .apart)
           ∙ ap (λ ws. set ws q (memOf (freeInfo o (nextIn (said (wordsOf r h) p)))))
-          (words-paint r h (label h o c used) o c used (cut-within f (free-cut b)) (λ _. refl) (λ _ _ _ _. refl))
+          (words-paint f (label h o c used) o c used (free-cut b) (λ _. refl) (λ _ _ _ _. refl))
           ∙ words-set r (label h o c used) (take h o c) q _ (f .within q (q-free .managed))
           (entry-first (take h o c) o q free q-stays (q-free .head) ∙ ap (freeInfo o) (rw update-same (w .before .links ∙ sym next-p)))
-          (λ y _ d. entry-same (label h o c used) (take h o c) y refl (λ j is. by-cases (ℕ-discrete j o)
+          (λ y d. entry-same (label h o c used) (take h o c) y refl (λ j is. by-cases (ℕ-discrete j o)
           (λ z. rw update-same (rw z (w .before .others y d (λ i.
           used≢free (kind-of (sym (paint-in (h .at) o c (tag o used) y (rw i (cell-first o c))) ∙ is))))))
           (λ z. rw update-other)))

@@ -11,14 +11,14 @@ use Rattle.buddy.proofs.Clean.{push-high}
 use Rattle.buddy.proofs.Refill.{push-head, push-other}
 use Rattle.pages.specs.Info.{freeInfo}
 use Rattle.region.specs.State.{headIn, freesIn, putHead, PutOk}
-use Rattle.region.specs.Image.{nextAfter, wordsOf, image}
+use Rattle.refine.specs.Image.{nextAfter, wordsOf, image}
 use Rattle.region.specs.declared.HeapMemoryRegion.{HeapMemoryRegion}
-use Rattle.refine.specs.Fine.{Fits}
+use Rattle.refine.specs.Fit.{Fits}
 use Rattle.refine.proofs.Links.{after-same, after-other}
 use Rattle.refine.proofs.Shown.{words-long}
 use Rattle.refine.proofs.Record.{head-image, frees-image, region-list}
 use Rattle.refine.proofs.Words.{words-paint}
-use Rattle.refine.proofs.Step.{Lent, Step, cut-within, run-below, cut-small, frees-small, paint-fits}
+use Rattle.refine.proofs.Step.{Lent, Step, run-below, cut-small, frees-small, paint-fits}
 
 module _ {M : ℕ → Bool} {r : HeapMemoryRegion} {h : Heap} (f : Fits M r h) (lent : Lent r) {o c : ℕ} (out : BlockOut M (h .at) o c) where
   pub put-image : Step M r (PutOk (first o c) o (image r h)) (putHead (first o c) o (image r h)) (push h o c)
@@ -43,6 +43,6 @@ module _ {M : ℕ → Bool} {r : HeapMemoryRegion} {h : Heap} (f : Fits M r h) (
       after = rw push-head (after-same (first o c) (first o c) (h .list o) refl ∙ sym (head-image r h o (omega (arith, valid))))
 
       words : set (wordsOf r h) (first o c) (memOf (freeInfo o (headIn (image r h) o))) ≡ wordsOf r (push h o c)
-      words = rw after at (words-paint r h (push h o c) o c free (cut-within f (out .cut)) (λ _. refl) (λ j q n _. by-cases (ℕ-discrete j o)
+      words = rw after at (words-paint f (push h o c) o c free (out .cut) (λ _. refl) (λ j q n _. by-cases (ℕ-discrete j o)
           (λ e. rw (e, push-head h o c) (after-other q (first o c) (h .list o) (λ x. n (rw (← x) (cell-first o c)))))
           (λ e. rw (push-other h o c j e))))

@@ -3,7 +3,7 @@ use Rattle.common.specs.Kit.{ℕ, _<_, _≡_, ap, _∙_, List, length}
 use Rattle.common.specs.Numbers.{update}
 use Rattle.buddy.specs.Heap.{Tag, Heap}
 use Rattle.region.specs.State.{headIn, freesIn, blocksIn, withList, withBlocks}
-use Rattle.region.specs.Image.{headOr, table, regionOf, image}
+use Rattle.refine.specs.Image.{headOr, table, regionOf, image}
 use Rattle.region.specs.declared.HeapMemoryRegion.{HeapMemoryRegion}
 use Rattle.refine.proofs.Tables.{getD-table}
 use Rattle.refine.proofs.Changes.{table-update}

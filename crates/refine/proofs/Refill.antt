@@ -9,10 +9,10 @@ use Rattle.buddy.proofs.Paint.{free-block}
 use Rattle.buddy.proofs.Steps.{take-out}
 use Rattle.region.specs.State.{State, headIn, split as splitState, SplitOk}
 use Rattle.region.specs.Steps.{lowestFrom, splitDown, DownOk, refill as refillState, RefillOk}
-use Rattle.region.specs.Image.{regionOf, image}
+use Rattle.refine.specs.Image.{regionOf, image}
 use Rattle.region.specs.declared.HeapMemoryRegion.{HeapMemoryRegion}
 use Rattle.region.specs.declared.lists.Found.the-variants.{At, Nothing}
-use Rattle.refine.specs.Fine.{Fits}
+use Rattle.refine.specs.Fit.{Fits}
 use Rattle.refine.proofs.Record.{head-image}
 use Rattle.refine.proofs.Step.{Lent, Step}
 use Rattle.refine.proofs.Listed.{list-free, list-some}

@@ -15,15 +15,15 @@ use Rattle.buddy.proofs.Refill.{heap-path, push-head, push-other, lower, upper-
 use Rattle.pages.specs.Fill.{init}
 use Rattle.region.specs.Layout.{endOf}
 use Rattle.region.specs.State.{headIn, freesIn, split as splitState, SplitOk}
-use Rattle.region.specs.Image.{nextAfter, wordsOf, image}
+use Rattle.refine.specs.Image.{nextAfter, wordsOf, image}
 use Rattle.region.specs.declared.HeapMemoryRegion.{HeapMemoryRegion}
-use Rattle.refine.specs.Fine.{Fits}
+use Rattle.refine.specs.Fit.{Fits}
 use Rattle.refine.proofs.Links.{after-same, after-other}
 use Rattle.refine.proofs.Shown.{words-long}
 use Rattle.refine.proofs.Record.{head-image, frees-image, blocks-image, region-list, region-two}
 use Rattle.refine.proofs.Words.{entry-same, words-run}
 use Rattle.refine.proofs.Halves.{high-page}
-use Rattle.refine.proofs.Step.{Lent, Step, bound, run-below, cut-small, frees-small, blocks-small, paint-fits}
+use Rattle.refine.proofs.Step.{Lent, Step, run-below, cut-small, frees-small, blocks-small, paint-fits}
 
 -- the first pages of the two halves of run c of order o + 1
 abbrev lo : ℕ → ℕ → ℕ
@@ -80,7 +80,7 @@ module _ {M : ℕ → Bool} {r : HeapMemoryRegion} {h : Heap} (f : Fits M r h) (
       let next : nextAfter (lo o c) (lists h o c o) ≡ hi o c = rw (list-here h o c) (after-same (lo o c) (lo o c) _ refl) in
       rw next at (words-run r h mid o (c * 2) free (λ q e. f .within q (out .cut .managed q (cell-low o c q e)))
       (paint-in (h .at) o (c * 2) (tag o free))
-      (λ q _ e. entry-same h mid q (paint-out (h .at) o (c * 2) (tag o free) q e) (λ j is. by-cases (ℕ-discrete j o)
+      (λ q e. entry-same h mid q (paint-out (h .at) o (c * 2) (tag o free) q e) (λ j is. by-cases (ℕ-discrete j o)
       (λ d. rw (d, list-here h o c) (after-other q (lo o c) _ (λ x. e (rw (← x) (cell-first o (c * 2))))
       ∙ after-other q (hi o c) _ (λ x. out .busy q (cell-high o c q (rw (← x) (cell-first o (c * 2 + 1)))) (kind-of is))))
       (λ d. rw update-other))))
@@ -93,7 +93,7 @@ module _ {M : ℕ → Bool} {r : HeapMemoryRegion} {h : Heap} (f : Fits M r h) (
       ∙ sym (head-image r h o (omega (arith, valid)))) in
       rw next at (words-run r mid (cleft h o c) o (c * 2 + 1) free (λ q e. f .within q (out .cut .managed q (cell-high o c q e)))
       (λ q e. paint-in (h .at) (suc o) c (tag o free) q (cell-high o c q e))
-      (λ q _ e. entry-same mid (cleft h o c) q (by-cases (ℕ-discrete (cell o q) (c * 2))
+      (λ q e. entry-same mid (cleft h o c) q (by-cases (ℕ-discrete (cell o q) (c * 2))
       (λ x. paint-in (h .at) (suc o) c (tag o free) q (cell-low o c q x) ∙ sym (paint-in (h .at) o (c * 2) (tag o free) q x))
       (λ x. paint-out (h .at) (suc o) c (tag o free) q (λ z. e (cell-halves o c q z x)) ∙ sym (paint-out (h .at) o (c * 2) (tag o free) q x)))
       (λ _ _. refl)))
@@ -108,7 +108,7 @@ module _ {M : ℕ → Bool} {r : HeapMemoryRegion} {h : Heap} (f : Fits M r h) (
       high = rw back (record { order = omega (arith, valid); ends = rw (words-long r h) (omega (arith, run-below f (out .cut))) });
       some = rw (blocks-image r h (suc o) (omega (arith, valid)), f .core .counted (suc o) valid) (omega (
         arith,
-        count-whole (endOf r) o c (bound f) (out .cut) (halve-out h out .cut) (λ q e. sym (order-of (paint-out (h .at) (suc o) c (tag o used) q e))),
+        count-whole (endOf r) o c (f .within) (out .cut) (halve-out h out .cut) (λ q e. sym (order-of (paint-out (h .at) (suc o) c (tag o used) q e))),
       ));
       count = rw (back, blocks-image r h o (omega (arith, valid))) (omega (arith, blocks-small f lent o (omega (arith, valid))));
       free = rw (back, frees-image r h o (omega (arith, valid))) (omega (arith, frees-small f lent o (omega (arith, valid))));
@@ -126,7 +126,7 @@ module _ {M : ℕ → Bool} {r : HeapMemoryRegion} {h : Heap} (f : Fits M r h) (
       high-words,
     );
     fits = paint-fits f o (suc o) c free (out .cut .managed) tt
-        (push-core (push-core (halve-core (bound f) (f .core) valid out) small upper) small under)
+        (push-core (push-core (halve-core (f .within) (f .core) valid out) small upper) small under)
         (then-high (then-high (halve-high h o c valid) (push-high _ o _ small)) (push-high _ o _ small))
         (λ q. ap (λ (g : Heap). g .at q) (split-is h o c));
   }

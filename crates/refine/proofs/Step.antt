@@ -1,19 +1,18 @@
 -- What a step on the image of a heap does, as a result with names; the bounds and the fit that every step needs.
-use Rattle.common.specs.Kit.{ℕ, _+_, _^_, _≤_, _<_, _≡_, _∙_, by-cases, Bool, T, length, ℕ-discrete, arith}
+use Rattle.common.specs.Kit.{ℕ, _+_, _^_, _≤_, _≡_, _∙_, by-cases, Bool, T, length, ℕ-discrete, arith}
 use Rattle.common.proofs.Bounds.{once-length, count-le}
 use Rattle.buddy.specs.Runs.{cell, first}
 use Rattle.buddy.specs.Heap.{Kind, Tag, tag, Heap, Core, heads}
 use Rattle.buddy.specs.Steps.{paint}
 use Rattle.buddy.proofs.RunLaws.{cell-first, run-ends}
-use Rattle.buddy.proofs.Spans.{T-span}
 use Rattle.buddy.proofs.Paint.{Cut, paint-in, paint-out}
 use Rattle.buddy.proofs.Clear.{order-small}
 use Rattle.buddy.proofs.Clean.{High, high-clean}
 use Rattle.region.specs.Layout.{endOf, Limits}
 use Rattle.region.specs.State.{State}
-use Rattle.region.specs.Image.{image}
+use Rattle.refine.specs.Image.{image}
 use Rattle.region.specs.declared.HeapMemoryRegion.{HeapMemoryRegion}
-use Rattle.refine.specs.Fine.{managed, Holds, Fits, Fine}
+use Rattle.refine.specs.Fit.{Holds, Fits, SoundFit}
 use Rattle.region.proofs.Limits.{pages-small}
 
 -- a region that is lent as many words as it has pages
@@ -30,7 +29,7 @@ pub record Step (M : ℕ → Bool) (r : HeapMemoryRegion) (Ok : Type 0) (after :
 pub record Rule (M : ℕ → Bool) (r : HeapMemoryRegion) (Ok : Type 0) (after : State) (g : Heap) : Type 0 where
   pub ok : Ok
   pub leaves : after ≡ image r g
-  pub fine : Fine M r g
+  pub fit : SoundFit M r g
 
 -- a step that answers x
 pub record Call {A : Type 0} (M : ℕ → Bool) (r : HeapMemoryRegion) (Ok : Type 0) (answer : A) (after : State) (x : A) (g : Heap) : Type 0 where
@@ -40,15 +39,8 @@ pub record Call {A : Type 0} (M : ℕ → Bool) (r : HeapMemoryRegion) (Ok : Typ
   pub fits : Fits M r g
 
 module _ {M : ℕ → Bool} {r : HeapMemoryRegion} {h : Heap} (f : Fits M r h) where
-  pub bound : (p : ℕ) → T (M p) → p < endOf r
-  bound p m = T-span (r .allocated) (endOf r) p (f .within p m) .1
-
-  module _ {at : ℕ → Tag} {i o c : ℕ} (cut : Cut M at i o c) where
-    pub cut-within : Cut (managed r) at i o c
-    cut-within = record { managed = λ q e. f .within q (cut .managed q e); order = cut .order }
-
-    pub run-below : first o c + 2 ^ o ≤ endOf r
-    run-below = run-ends o c (endOf r) (λ q e. bound q (cut .managed q e))
+  pub run-below : {at : ℕ → Tag} {i o c : ℕ} → Cut M at i o c → first o c + 2 ^ o ≤ endOf r
+  run-below {o = o} {c = c} cut = run-ends o c (endOf r) (λ q e. f .within q (cut .managed q e))
 
   pub cut-small : {i o c : ℕ} → Cut M (h .at) i o c → i ≤ 5
   cut-small {i} {o} {c} cut = rw (cut .order (first o c) (cell-first o c)) at
@@ -58,7 +50,7 @@ module _ {M : ℕ → Bool} {r : HeapMemoryRegion} {h : Heap} (f : Fits M r h) w
     pub frees-small : length (h .list o) ≤ 2 ^ 20
     frees-small =
         let l = f .core .listed o valid in
-        let n = once-length (endOf r) (h .list o) (l .once) (λ p m. bound p (l .sound p m .managed)) in
+        let n = once-length (endOf r) (h .list o) (l .once) (λ p m. f .within p (l .sound p m .managed)) in
         omega (arith, n, pages-small (r .«page_count») (lent .most))
 
     pub blocks-small : h .blocks o ≤ 2 ^ 20

@@ -1,6 +1,6 @@
 -- A table of the values of a function: its length, its values, and that a list with these is the table.
 use Rattle.common.specs.Kit.{ℕ, zero, suc, _+_, _<_, _≡_, refl, sym, ap, _∙_, List, length, getD, ext-getD, zero-add, arith}
-use Rattle.region.specs.Image.{table}
+use Rattle.refine.specs.Image.{table}
 
 pub length-table : (f : ℕ → ℕ) (a n : ℕ) → length (table f a n) ≡ n
 unfolding table

@@ -11,16 +11,16 @@ use Rattle.buddy.proofs.Paint.{FreeBlock, free-block, free-cut}
 use Rattle.pages.specs.Info.{allocatedInfo}
 use Rattle.pages.specs.Said.{said, nextIn}
 use Rattle.region.specs.State.{headIn, headTaken, takeHead, TakeOk}
-use Rattle.region.specs.Image.{headOr, wordsOf, image}
+use Rattle.refine.specs.Image.{headOr, wordsOf, image}
 use Rattle.region.specs.declared.HeapMemoryRegion.{HeapMemoryRegion}
 use Rattle.region.specs.declared.lists.Found.{Found}
 use Rattle.region.specs.declared.lists.Found.the-variants.{At, Nothing}
-use Rattle.refine.specs.Fine.{Fits}
+use Rattle.refine.specs.Fit.{Fits}
 use Rattle.refine.proofs.Links.{after-other}
 use Rattle.refine.proofs.Shown.{words-long}
 use Rattle.refine.proofs.Record.{head-image, frees-image}
 use Rattle.refine.proofs.Words.{words-paint}
-use Rattle.refine.proofs.Step.{Lent, Call, cut-within}
+use Rattle.refine.proofs.Step.{Lent, Call}
 use Rattle.refine.proofs.Listed.{list-links, list-free, list-below, list-some, take-region, take-fits}
 
 -- taking the head of list o off the image of h answers x and leaves the image of g
@@ -72,7 +72,7 @@ module _ {M : ℕ → Bool} {r : HeapMemoryRegion} {h : Heap} (f : Fits M r h) (
       next = (rw e at (list-links f lent o valid)) .0 ∙ rw (e, remove-same p p ps refl)
 
       words : set (wordsOf r h) p (memOf (allocatedInfo o)) ≡ wordsOf r (take h o c)
-      words = words-paint r h (take h o c) o c used (cut-within f (free-cut block)) (λ _. refl) (λ j q n _. by-cases (ℕ-discrete j o)
+      words = words-paint f (take h o c) o c used (free-cut block) (λ _. refl) (λ j q n _. by-cases (ℕ-discrete j o)
           (λ d. rw update-same (rw (d, e, remove-same p p ps refl) (sym (after-other q p ps (λ x. n (rw (← x) (cell-first o c)))))))
           (λ d. rw update-other))
 

@@ -1,1 +1,2 @@
-pub mod Fine
+pub mod Image
+pub mod Fit

@@ -3,4 +3,3 @@ pub mod Pages
 pub mod Sound
 pub mod State
 pub mod Steps
-pub mod Image

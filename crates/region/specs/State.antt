@@ -1,4 +1,4 @@
--- A state, that is a record and its words, and the single steps on it, as the code makes them: lists, split and merge.
+-- A state, that is a record (W12) and its words, and the single steps on it, as the code makes them: lists, split and merge.
 -- Each has beside it what makes it safe: indexes in range and counts that do not pass their ends. No step speaks of soundness.
 use Rattle.common.specs.Kit.{ℕ, zero, suc, _+_, _-_, _^_, _≤_, _<_, _≡_, Bool, true, false, cond, List, eqb, leb, length, getD, set}
 use Rattle.words.specs.Word.{noPage, memOf}
@@ -56,7 +56,7 @@ withBlocks r o n = record {
   «next_page» = r .«next_page»;
 }
 
--- get_next_page: take the head of list o off, and mark it Allocated
+-- get_next_page: take the head of list o off, and mark it Allocated (C20)
 unfoldable pub headTaken : ℕ → State → Found
 headTaken o s = cond (eqb (headIn s o) noPage) Nothing (At (headIn s o))
 
@@ -70,7 +70,7 @@ pub record TakeOk (o : ℕ) (s : State) : Type 0 where
   pub head : (headIn s o ≡ noPage → ⊥) → headIn s o < length (s .ws)
   pub some : (headIn s o ≡ noPage → ⊥) → 0 < freesIn s o
 
--- free_page_raw: put page p at the head of list o
+-- free_page_raw: put page p at the head of list o (C21)
 unfoldable pub putHead : ℕ → ℕ → State → State
 putHead p o s = st (withList (s .reg) o p (freesIn s o + 1)) (set (s .ws) p (memOf (freeInfo o (headIn s o))))
 
@@ -109,7 +109,7 @@ abbrev pub ifAt : {A : Type 0} → Found → (ℕ → A) → A → A
 ifAt (At p) f d = f p
 ifAt Nothing f d = d
 
--- allocate_pfn: take page p out of list o
+-- allocate_pfn: take page p out of list o (C22)
 abbrev pub before : ℕ → ℕ → State → Found
 before p o s = pageBefore (freesIn s o) (headIn s o) p (s .ws)
 
@@ -128,7 +128,7 @@ pub record PullOk (p o : ℕ) (s : State) : Type 0 where
   pub walk : (headIn s o ≡ noPage → ⊥) → (headIn s o ≡ p → ⊥) → WalkOk (freesIn s o) (headIn s o) p (s .ws)
   pub cuts : (b : ℕ) → (headIn s o ≡ noPage → ⊥) → (headIn s o ≡ p → ⊥) → before p o s ≡ At b → CutOk b p o s
 
--- split_page: the block of order o + 1 at page p, which is out, becomes two of order o at the head of list o, the lower half first
+-- split_page: the block of order o + 1 at page p, which is out, becomes two of order o at the head of list o, the lower half first (C30)
 unfoldable pub split : ℕ → ℕ → State → State
 split p o s =
     st
@@ -148,7 +148,7 @@ pub record SplitOk (p order : ℕ) (s : State) : Type 0 where
 abbrev pub lower : ℕ → ℕ → ℕ
 lower p q = cond (leb p q) p q
 
--- merge_pages: two blocks of order o that are out become one, one order up, at the lower page p
+-- merge_pages: two blocks of order o that are out become one, one order up, at the lower page p (C31)
 unfoldable pub merge : ℕ → ℕ → State → State
 merge p o s =
     st

@@ -1,9 +1,11 @@
--- The rules on a state, over the single steps, as the code makes them: free (5), refill and allocate (4). Each has beside it what makes it safe.
+-- The rules on a state, over the single steps, as the code makes them: free (C50), refill and allocate (C40, C41). Each has beside it what makes it
+-- safe.
 use Rattle.common.specs.Kit.{ℕ, zero, suc, _+_, _-_, _%_, _^_, _≤_, _<_, _≡_, Bool, true, false, cond, List, eqb, ltb, length, getD, set}
 use Rattle.words.specs.Word.{noPage, memOf}
 use Rattle.words.specs.declared.word.PageInfo.{PageInfo}
 use Rattle.pages.specs.Said.{said}
-use Rattle.region.specs.Pages.{freeOrder, buddyOf}
+use Rattle.pages.specs.Meaning.{freeOrder}
+use Rattle.region.specs.Pages.{buddyOf}
 use Rattle.region.specs.State.{State, st, room, ifAt, headTaken, takeHead, TakeOk, putHead, PutOk, pull, PullOk, split, SplitOk, lower, merge, MergeOk}
 use Rattle.region.specs.declared.lists.Found.{Found}
 use Rattle.region.specs.declared.lists.Found.the-variants.{At, Nothing}
@@ -41,7 +43,7 @@ pub record TryOk (p o : ℕ) (s : State) : Type 0 where
   pub pulled : joins p o s ≡ true → PullOk (buddyOf o p) o s
   pub merged : joins p o s ≡ true → MergeOk p (buddyOf o p) o (pull (buddyOf o p) o s)
 
--- free_page_order: rule 5; `left` is 5 minus the order
+-- free_page_order (C50); `left` is 5 minus the order
 unfoldable pub freeFrom : ℕ → ℕ → ℕ → State → State
 freeFrom zero p o s = putHead p o s
 freeFrom (suc left) p o s = cond (joins p o s) (freeFrom left (lower p (buddyOf o p)) (suc o) (join p o s)) (putHead p o s)
@@ -57,7 +59,7 @@ unfoldable pub lowestFrom : ℕ → ℕ → List ℕ → Found
 lowestFrom zero j heads = Nothing
 lowestFrom (suc left) j heads = cond (eqb (getD heads j 0) noPage) (lowestFrom left (suc j) heads) (At j)
 
--- refill_page_list: the head of list k + o is split down to list o
+-- refill_page_list (C40): the head of list k + o is split down to list o
 unfoldable pub splitDown : ℕ → ℕ → State → State
 splitDown o zero s = s
 splitDown o (suc k) s =
@@ -83,7 +85,7 @@ pub record RefillOk (o : ℕ) (s : State) : Type 0 where
   pub order : o < 6
   pub down : (j : ℕ) → lowestFrom (6 - o) o (s .reg .«next_page») ≡ At j → SplitDownOk j o s
 
--- allocate_pages_info: rule 4; the page granted is marked with its info
+-- allocate_pages_info (C41); the page granted is marked with its info
 unfoldable pub grantPage : ℕ → State → Found
 grantPage o s = headTaken o (refill o s)
 

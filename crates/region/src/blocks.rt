@@ -1,4 +1,4 @@
-// Blocks: a split into two halves, a merge of two buddies (rule 3).
+// Blocks: a split into two halves, a merge of two buddies (C30, C31).
 ghost use mathlib.Core.Path.{_≡_};
 ghost use Prim.Native.Nat.{_-_, _<_};
 ghost use Rattle.region.specs.State.{st, Gives, withBlocks, SplitOk, split, lower, MergeOk, merge};

@@ -1,4 +1,4 @@
-// The six lists: take the head, put at the head, take a named block out (rule 2).
+// The six lists: take the head, put at the head, take a named block out (C20 to C22).
 ghost use mathlib.Core.Path.{_≡_};
 ghost use Prim.Native.Nat.{_<_};
 ghost use Rattle.region.specs.State.{st, Gives, withList, TakeOk, takeHead, headTaken, PutOk, putHead, WalkOk, pageBefore, CutOk, cut, PullOk, pull, pulls};

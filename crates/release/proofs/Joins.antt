@@ -2,7 +2,8 @@
 use Rattle.common.specs.Kit.{ℕ, suc, _+_, _-_, _≤_, _<_, _≡_, refl, sym, _∙_, Bool, true, false, cond, true≢false, eqb, ltb, add-one, arith, ne-eqb, ltb-true, ltb-false}
 use Rattle.common.proofs.Tests.{by-test}
 use Rattle.pages.specs.Said.{said}
-use Rattle.region.specs.Pages.{noOrder, freeOrder, buddyOf}
+use Rattle.pages.specs.Meaning.{noOrder, freeOrder}
+use Rattle.region.specs.Pages.{buddyOf}
 use Rattle.region.specs.State.{State, st, Gives, lower, putHead, PutOk}
 use Rattle.region.specs.Steps.{neighbor, joins, join, tryPage, tryJoin, TryOk, freeFrom, FreeOk}
 use Rattle.region.specs.declared.lists.Found.{Found}

@@ -1,4 +1,4 @@
-// Returning a block: the buddy, the merge, the recursion up the orders (document 01, rule 5).
+// Returning a block: the buddy, the merge, the recursion up the orders (C50).
 // For the public calls that free and put, and for set-up. Below it stand the steps of `region`.
 ghost use mathlib.Core.Path.{_≡_};
 ghost use Prim.Native.Nat.{_-_};

@@ -1,4 +1,4 @@
-// Document 01's test program: sets region R up in a part of a buffer of Reserved words, and prints the memory report.
+// The customer's test program: sets region R up in a part of a buffer of Reserved words, and prints the memory report.
 use heap::reads::memory_info;
 use heap::start::root_mem_init;
 use text::lines::report_lines;

@@ -8,11 +8,12 @@ use Rattle.buddy.specs.Runs.{cell, first, buddy}
 use Rattle.buddy.specs.Steps.{paint, push, take, merge as mergeHeap, withRun, add}
 use Rattle.buddy.specs.Rules.{freeAt, freeBlock, empty, grow, growMany, setUpFrom, setUp}
 use Rattle.pages.specs.Fill.{fill, mark}
+use Rattle.region.specs.Layout.{bare}
 use Rattle.region.specs.Pages.{buddyOf}
 use Rattle.region.specs.State.{State, withList, withBlocks, takeHead, putHead, pageBefore, cut, pull, merge}
 use Rattle.region.specs.Steps.{neighbor, joins, join, freeFrom}
-use Rattle.region.specs.Image.{nextAfter, entry, shown, table as values, regionOf, wordsOf, image}
-use Rattle.setup.specs.Steps.{blank, bare, addBlock, growBlock, growBlocks, growFrom, growSpan, initMemory}
+use Rattle.refine.specs.Image.{nextAfter, entry, shown, table as values, regionOf, wordsOf, image}
+use Rattle.setup.specs.Steps.{blank, addBlock, growBlock, growBlocks, growFrom, growSpan, initMemory}
 
 -- a region of so many pages and boot pages: its block counts, free counts and list heads after set-up
 record Case : Type 0 where
@@ -53,7 +54,7 @@ table =
     ∷ row 2 0 (1 ∷ 0 ∷ 0 ∷ 0 ∷ 0 ∷ 0 ∷ []) (0 ∷ noPage ∷ noPage ∷ noPage ∷ noPage ∷ noPage ∷ [])
     ∷ row 2 1 (replicate 6 0) none
     ∷ row 64 63 (replicate 6 0) none
-    -- two metadata pages: an odd number of pages, and document 01's case of 1,024
+    -- two metadata pages: an odd number of pages, and the customer's case of 1,024
     ∷ row 513 0 (1 ∷ 1 ∷ 1 ∷ 1 ∷ 1 ∷ 15 ∷ []) (510 ∷ 508 ∷ 504 ∷ 496 ∷ 480 ∷ 448 ∷ [])
     ∷ row 1024 0 (0 ∷ 1 ∷ 1 ∷ 1 ∷ 1 ∷ 31 ∷ []) (noPage ∷ 1020 ∷ 1016 ∷ 1008 ∷ 992 ∷ 960 ∷ [])
     -- the boot pages end inside a run: one whole run, and fringes below and above it
@@ -61,9 +62,9 @@ table =
     ∷ []
 
 cases : map found table ≡ table
-unfolding start setTo found row none table wordRow decodeOf memOf fill mark buddyOf withList withBlocks takeHead putHead pageBefore cut pull merge neighbor joins join freeFrom blank bare addBlock growBlock growBlocks growFrom growSpan initMemory
+unfolding start setTo found row none table wordRow decodeOf memOf fill mark buddyOf withList withBlocks takeHead putHead pageBefore cut pull merge neighbor joins join freeFrom blank addBlock growBlock growBlocks growFrom growSpan initMemory
 cases = refl
 
 image-of-R : setTo 64 3 ≡ image (bare start 64 3) (setUp 3 63 .heap)
-unfolding start setTo update remove wordRow decodeOf memOf cell first buddy paint push take mergeHeap withRun add freeAt freeBlock empty grow growMany setUpFrom setUp fill mark buddyOf withList withBlocks takeHead putHead pageBefore cut pull merge neighbor joins join freeFrom nextAfter entry shown values regionOf wordsOf blank bare addBlock growBlock growBlocks growFrom growSpan initMemory
+unfolding start setTo update remove wordRow decodeOf memOf cell first buddy paint push take mergeHeap withRun add freeAt freeBlock empty grow growMany setUpFrom setUp fill mark buddyOf withList withBlocks takeHead putHead pageBefore cut pull merge neighbor joins join freeFrom nextAfter entry shown values regionOf wordsOf blank addBlock growBlock growBlocks growFrom growSpan initMemory
 image-of-R = refl

@@ -4,18 +4,17 @@ use Rattle.common.specs.Kit.{ℕ, _+_, _-_, _*_, _/_, _≤_, _≡_, _∙_, by-c
 use Rattle.words.specs.declared.place.VirtAddr.{VirtAddr}
 use Rattle.buddy.specs.Runs.{cell, first}
 use Rattle.buddy.specs.Rules.{State, empty, growMany, setUpFrom, setUp, span}
-use Rattle.buddy.proofs.Spans.{T-span, span-T, span-glue}
+use Rattle.buddy.proofs.Spans.{T-span, span-glue}
 use Rattle.buddy.proofs.SetUp.{single-managed, large-managed}
-use Rattle.region.specs.Layout.{endOf, allocPages, Limits}
+use Rattle.region.specs.Layout.{bare, endOf, allocPages, managed, Limits}
 use Rattle.region.specs.Sound.{Sound}
-use Rattle.region.specs.Image.{image}
+use Rattle.refine.specs.Image.{image}
 use Rattle.region.specs.declared.HeapMemoryRegion.{HeapMemoryRegion}
-use Rattle.refine.specs.Fine.{managed}
 use Rattle.refine.proofs.Shown.{words-long}
 use Rattle.refine.proofs.Step.{Lent, Rule}
-use Rattle.refine.proofs.Fresh.{fresh, fresh-fine, fresh-sound}
-use Rattle.setup.specs.Steps.{bare, growFrom, GrowFromOk, growSpan, GrowSpanOk, initMemory, InitMemoryOk}
-use Rattle.setup.proofs.Blank.{empty-fine, blank-image}
+use Rattle.refine.proofs.Fresh.{fresh, fresh-fit, fresh-sound}
+use Rattle.setup.specs.Steps.{growFrom, GrowFromOk, growSpan, GrowSpanOk, initMemory, InitMemoryOk}
+use Rattle.setup.proofs.Blank.{empty-fit, blank-image}
 use Rattle.setup.proofs.Many.{Grown, many-image, pages-image}
 
 module _ (r : HeapMemoryRegion) (lent : Lent r) (lo hi : ℕ) where
@@ -32,29 +31,29 @@ module _ (r : HeapMemoryRegion) (lent : Lent r) (lo hi : ℕ) where
 
     runs : Grown r 5 lo (lo * 32) (hi - lo) empty
     unfolding empty cell first
-    runs = many-image lent empty (empty-fine r) 5 lo (le-refl 5) (hi - lo) (λ i x y. record {
-      inside = λ q k. span-T a e q (omega arith) (omega arith);
+    runs = many-image lent empty (empty-fit r) 5 lo (le-refl 5) (hi - lo) (λ i x y. record {
       fresh = λ q k t. t;
+      room = λ q k. omega arith;
     })
 
     abbrev s₂ : State
     s₂ = growMany 0 a (lo * 32 - a) s₁
 
     low : Grown r 0 a a (lo * 32 - a) s₁
-    low = pages-image lent s₁ (runs .fine) a (lo * 32) (le-refl a) (omega arith)
+    low = pages-image lent s₁ (runs .fit) a (lo * 32) (omega arith)
         (λ q x y t. omega (arith, T-span (lo * 32) (hi * 32) q (rw (large-managed lo hi q) at t)))
 
     managed₂ : (q : ℕ) → s₂ .managed q ≡ span a (hi * 32) q
     managed₂ q = single-managed a (lo * 32) s₁ q ∙ rw (large-managed lo hi q) (span-glue a (lo * 32) (hi * 32) q from (omega arith))
 
     high : Grown r 0 (hi * 32) (hi * 32) (e - hi * 32) s₂
-    high = pages-image lent s₂ (low .fine) (hi * 32) e (omega arith) (le-refl e)
+    high = pages-image lent s₂ (low .fit) (hi * 32) e (le-refl e)
         (λ q x y t. omega (arith, T-span a (hi * 32) q (rw (managed₂ q) at t)))
 
   -- with no whole run, all pages singly
   singly : Grown r 0 a a (e - a) empty
   unfolding empty
-  singly = pages-image lent empty (empty-fine r) a e (le-refl a) (le-refl e) (λ q x y t. t)
+  singly = pages-image lent empty (empty-fit r) a e (le-refl e) (λ q x y t. t)
 
   from-image : a ≤ lo * 32 → hi * 32 ≤ e → Rule (setUpFrom a e lo hi .managed) r (GrowFromOk a e (lo * 32) (hi * 32) (image r (empty .heap)))
       (growFrom a e (lo * 32) (hi * 32) (image r (empty .heap))) (setUpFrom a e lo hi .heap)
@@ -74,7 +73,7 @@ module _ (r : HeapMemoryRegion) (lent : Lent r) (lo hi : ℕ) where
           all = λ x. absurd (omega arith);
         };
         leaves = rw (lt-ltb (lo * 32) (hi * 32) (omega arith), lt-ltb lo hi l, many, one .leaves, two .leaves) (three .leaves);
-        fine = rw (lt-ltb lo hi l) (three .fine);
+        fit = rw (lt-ltb lo hi l) (three .fit);
       })
       (λ l. record {
         ok = record {
@@ -84,27 +83,33 @@ module _ (r : HeapMemoryRegion) (lent : Lent r) (lo hi : ℕ) where
           all = λ _. singly .ok;
         };
         leaves = rw (le-ltb (lo * 32) (hi * 32) (omega arith), le-ltb lo hi (omega arith)) (singly .leaves);
-        fine = rw (le-ltb lo hi (omega arith)) (singly .fine);
+        fit = rw (le-ltb lo hi (omega arith)) (singly .fit);
       })
 
 -- all managed pages of a region of which none is managed yet
-span-image : (r : HeapMemoryRegion) → Lent r
-    → Rule (managed r) r (GrowSpanOk (r .allocated) (endOf r) (image r (empty .heap))) (growSpan (r .allocated) (endOf r) (image r (empty .heap))) (fresh r)
-unfolding growSpan setUp
-span-image r lent =
-    let steps = from-image r lent ((r .allocated + 31) / 32) (endOf r / 32) (omega arith) (omega arith) in
-    record {
-      ok = record { order = lent .boot; ends = rw (words-long r (empty .heap)) (omega arith); calls = steps .ok };
-      leaves = steps .leaves;
-      fine = fresh-fine r;
-    }
+module _ (r : HeapMemoryRegion) (lent : Lent r) where
+  abbrev grown : Rattle.region.specs.State.State
+  grown = growSpan (r .allocated) (endOf r) (image r (empty .heap))
+
+  span-image : Rule (managed r (grown .ws)) r (GrowSpanOk (r .allocated) (endOf r) (image r (empty .heap))) grown (fresh r)
+  unfolding growSpan setUp
+  span-image =
+      let steps = from-image r lent ((r .allocated + 31) / 32) (endOf r / 32) (omega arith) (omega arith) in
+      record {
+        ok = record { order = lent .boot; ends = rw (words-long r (empty .heap)) (omega arith); calls = steps .ok };
+        leaves = steps .leaves;
+        fit = fresh-fit r (grown .ws);
+      }
 
 module _ (start : VirtAddr) (n a : ℕ) (ws : List ℕ) (limits : Limits (start .0) n a (length ws)) where
+  lent : Lent (bare start n a)
+  lent = rw (limits .long) at limits
+
   -- rule 7, a result
-  pub init-image : Rule (managed (bare start n a)) (bare start n a) (InitMemoryOk start n a ws) (initMemory start n a ws) (setUp a (allocPages n) .heap)
-  unfolding bare initMemory
-  init-image = rw (blank-image start n a ws (limits .long) (limits .boot)) (span-image (bare start n a) (rw (limits .long) at limits))
+  pub init-image : Rule (managed (bare start n a) (initMemory start n a ws .ws)) (bare start n a) (InitMemoryOk start n a ws) (initMemory start n a ws)
+      (setUp a (allocPages n) .heap)
+  unfolding initMemory
+  init-image = rw (blank-image start n a ws (limits .long)) (span-image (bare start n a) lent)
 
   pub init-sound : Sound (initMemory start n a ws .reg) (initMemory start n a ws .ws)
-  unfolding bare
-  init-sound = rw (init-image .leaves) (fresh-sound (bare start n a) (rw (limits .long) at limits))
+  init-sound = rw (init-image .leaves) (fresh-sound (bare start n a) lent)

@@ -1,36 +1,24 @@
--- Set-up on a state, as the code makes it: document 01, rule 7. Each step has beside it what makes it safe.
-use Rattle.common.specs.Kit.{ℕ, zero, suc, _+_, _-_, _*_, _/_, _^_, _≤_, _<_, cond, List, ltb, length, set, replicate}
-use Rattle.words.specs.Word.{noPage, memOf}
+-- Set-up on a state, as the code makes it (C70, C71). Each step has beside it what makes it safe.
+use Rattle.common.specs.Kit.{ℕ, zero, suc, _+_, _-_, _*_, _/_, _^_, _≤_, _<_, cond, List, ltb, length, set}
+use Rattle.words.specs.Word.{memOf}
 use Rattle.words.specs.declared.place.VirtAddr.{VirtAddr}
 use Rattle.pages.specs.Info.{allocatedInfo, reservedInfo}
 use Rattle.pages.specs.Fill.{BlockIn, fill, mark}
-use Rattle.region.specs.Layout.{allocPages}
+use Rattle.region.specs.Layout.{allocPages, bare}
 use Rattle.region.specs.State.{State, st, room, blocksIn, withBlocks}
 use Rattle.region.specs.Steps.{freeFrom, FreeOk}
-use Rattle.region.specs.declared.HeapMemoryRegion.{HeapMemoryRegion}
 
--- the words before any page is managed: Allocated order 0 below alloc_pages, Reserved from there on
+-- the words before any page is managed: Allocated order 0 below alloc_pages, Reserved from there on (C70)
 unfoldable pub blank : ℕ → List ℕ → List ℕ
 blank n ws =
     fill (allocPages n) (memOf reservedInfo) (n - allocPages n) (fill 0 (memOf (allocatedInfo 0)) (allocPages n) ws)
-
--- the record before any page is managed: counts of zero and no lists
-unfoldable pub bare : VirtAddr → ℕ → ℕ → HeapMemoryRegion
-bare start n a = record {
-  «start_virt» = start;
-  «page_count» = n;
-  allocated = a;
-  «nr_pages» = replicate 6 0;
-  «free_pages» = replicate 6 0;
-  «next_page» = replicate 6 noPage;
-}
 
 -- the run of order o at page p becomes one more block, out
 unfoldable pub addBlock : ℕ → ℕ → State → State
 addBlock o p s =
     st (withBlocks (s .reg) o (blocksIn s o + 1)) (mark p o (set (s .ws) p (memOf (allocatedInfo o))))
 
--- and is freed by rule 5
+-- and is freed (C50)
 unfoldable pub growBlock : ℕ → ℕ → State → State
 growBlock o p s = freeFrom (5 - o) p o (addBlock o p s)
 
@@ -48,8 +36,8 @@ pub record GrowBlocksOk (o p k : ℕ) (s : State) : Type 0 where
   pub order : o < 6
   pub turn : (i : ℕ) → i < k → GrowOk o (p + i * 2 ^ o) (growBlocks o p i s)
 
--- "aligned order 5 blocks first, ascending; then the low fringe, then the high fringe, page by page, merging. With no whole order 5 run, all
--- pages singly": the pages from a up to e, with the order 5 runs from page lo up to hi
+-- C71: the whole runs of order 5, then the pages below them, then those above them, one by one; without such a run all pages one by one: the pages
+-- from a up to e, with the order 5 runs from page lo up to hi
 unfoldable pub growFrom : ℕ → ℕ → ℕ → ℕ → State → State
 growFrom a e lo hi s =
     cond (ltb lo hi)
@@ -71,7 +59,7 @@ pub record GrowSpanOk (a e : ℕ) (s : State) : Type 0 where
   pub ends : e ≤ length (s .ws)
   pub calls : GrowFromOk a e ((a + 31) / 32 * 32) (e / 32 * 32) s
 
--- init_memory: n pages, of which a are boot pages; "what the words held before plays no part"
+-- init_memory: n pages, of which a are boot pages; "what the words held before plays no part" (C70)
 unfoldable pub initMemory : VirtAddr → ℕ → ℕ → List ℕ → State
 initMemory start n a ws = growSpan a (allocPages n) (st (bare start n a) (blank n ws))
 

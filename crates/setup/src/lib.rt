@@ -1,39 +1,25 @@
-// Set-up of a region on lent words: boot and metadata words, then every managed page freed (document 01, rule 7).
+// Set-up of a region on lent words: boot and metadata words, then every managed page freed (C70, C71).
 // For the public set-up call, which refuses bad numbers first. Below it stand the steps of `region` and the free of `release`.
 ghost use mathlib.Core.Path.{_≡_};
 ghost use lib.ListN.{length};
 ghost use Rattle.region.specs.Layout.{Limits};
 ghost use Rattle.region.specs.State.{st};
-ghost use Rattle.setup.specs.Steps.{bare, GrowOk, growBlock, GrowBlocksOk, growBlocks, GrowSpanOk, growSpan, initMemory};
+ghost use Rattle.setup.specs.Steps.{GrowOk, growBlock, GrowBlocksOk, growBlocks, GrowSpanOk, growSpan, initMemory};
 use pages::fill_words;
 use pages::mark_compound_page;
 use pages::size;
 use pages::write_page_info;
 use region::HeapMemoryRegion;
+use region::bare_region;
 use release::free_page_order;
 use words::place::VirtAddr;
 use words::word::AllocatedInfo;
 use words::word::MAX_ORDER;
-use words::word::NO_PAGE;
 use words::word::PageInfo;
 use words::word::ReservedInfo;
 
 // The pages of a block of the highest order.
 const RUN: usize = 32;
-
-// The record of a region before any of its pages is managed.
-pub fn bare_region(start_virt: VirtAddr, page_count: usize, allocated: usize) -> HeapMemoryRegion
-    ensures { λ r. ⌜ r ≡ bare «start_virt» «page_count» allocated ⌝ }
-{
-    HeapMemoryRegion {
-        start_virt: start_virt,
-        page_count: page_count,
-        allocated: allocated,
-        nr_pages: [0; 6],
-        free_pages: [0; 6],
-        next_page: [NO_PAGE; 6],
-    }
-}
 
 // Makes one more block of pages that were not managed: it is marked and counted as out, then freed.
 pub fn grow_block(

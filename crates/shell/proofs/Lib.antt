@@ -1,1 +1,2 @@
+-- What several proofs of the shell share.
 pub mod Keys

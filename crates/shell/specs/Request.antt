@@ -4,39 +4,39 @@ use Rattle.common.specs.Kit.{ℕ, Bool, false, cond, _||_, List, [], _∷_, eqb
 use Rattle.words.specs.Word.{decodeOf}
 use Rattle.words.specs.Order.{orderOf}
 use Rattle.region.specs.declared.HeapMemoryRegion.{HeapMemoryRegion}
-use Rattle.sound_calls.specs.Told.{Told, ok, Result}
-use Rattle.heap.specs.Fields.{encodeFields}
-use Rattle.heap.specs.Promise.{emptyRegion, setUpPromise, allocatePromise, filePromise, slabPromise, freePromise, getPromise, putPromise, lookupPromise, auditPromise}
-use Rattle.parse.specs.declared.input.Request.{Request}
+use Rattle.buddy.specs.Request.{forBlock, forFile, forSlab, on, toFree, toGet, toPut}
+use Rattle.sound_calls.specs.Answer.{Result}
+use Rattle.words.specs.RawFields.{encodeFields}
+use Rattle.heap.specs.Promise.{emptyRegion, setUpPromise, promise, lookupPromise, auditPromise}
+use Rattle.parse.specs.declared.input.Command.{Command}
 use Rattle.text.specs.Line.{line}
 use Rattle.text.specs.declared.answer.Line.{Line}
 use Rattle.text.specs.declared.answer.Word.{Word}
 use Rattle.text.specs.declared.answer.Value.{Value}
-use Rattle.answers.specs.Answer.{lineOf, decodedLine, encodedLine}
+use Rattle.answers.specs.Lines.{lineOf, decodedLine, encodedLine}
 use Rattle.parse.specs.Names as Name
-use Rattle.shell.specs.declared.steps.Answer.{Answer}
+use Rattle.shell.specs.declared.steps.Reply.{Reply}
 use Rattle.shell.specs.declared.steps.Step.{Step}
 
--- what a request leaves and answers
+-- what a request leaves, and the reply
 pub record Did : Type 0 where
   pub region : HeapMemoryRegion
   pub words : List ℕ
-  pub answer : Answer
+  pub reply : Reply
 
-abbrev pub did : HeapMemoryRegion → List ℕ → Answer → Did
-did r ws a = record { region = r; words = ws; answer = a }
+abbrev pub did : HeapMemoryRegion → List ℕ → Reply → Did
+did r ws x = record { region = r; words = ws; reply = x }
 
--- a record, and a line for the answer
+-- the reply is a line; and the same of the code's `Step`
+abbrev pub says : HeapMemoryRegion → List ℕ → Line → Did
+says r ws l = did r ws (Reply.Line l)
+
 abbrev pub step : HeapMemoryRegion → Line → Step
-step r l = record { region = r; answer = Answer.Line l }
-
--- a line of one word
-abbrev pub oneWord : Word → Line
-oneWord w = line w Value.None Value.None
+step r l = record { region = r; reply = Reply.Line l }
 
 -- a call of the heap
 abbrev pub calls : Result → Did
-calls x = did (x .region) (x .words) (Answer.Line (lineOf (x .told)))
+calls x = says (x .region) (x .words) (lineOf (x .answer))
 
 -- fields of a number for each order, and of one number
 abbrev pub hasOrders : ℕ → Bool
@@ -64,61 +64,54 @@ abbrev pub isText : ℕ → Bool
 isText name = eqb name Name.report || eqb name Name.print || eqb name Name.lists || eqb name Name.state || eqb name Name.help
 
 module _ (r : HeapMemoryRegion) (ws : List ℕ) where
-  -- nothing changes
-  abbrev pub says : Line → Did
-  says l = did r ws (Answer.Line l)
-
-  abbrev pub tells : Told → Did
-  tells t = says (lineOf t)
-
   -- no request
   abbrev pub bad : Did
-  bad = says (oneWord Word.Bad)
+  bad = says r ws (line Word.Bad [])
 
   -- a name alone
   unfoldable pub alone : ℕ → Did
   alone name =
-      cond (eqb name Name.file) (calls (filePromise r ws))
-      (cond (eqb name Name.audit) (tells (auditPromise r ws))
-      (cond (isText name) (did r ws (Answer.Text name))
+      cond (eqb name Name.file) (calls (promise r ws forFile))
+      (cond (eqb name Name.audit) (says r ws (lineOf (auditPromise r ws)))
+      (cond (isText name) (did r ws (Reply.Text name))
       bad))
 
   -- a name and a number, where nothing changes
   unfoldable pub reads : ℕ → ℕ → Line
   reads name n =
       cond (eqb name Name.lookup) (lineOf (lookupPromise r ws n))
-      (cond (eqb name Name.word) (oneWord (cond (ltb n (length ws)) (Word.Hex (getD ws n 0)) Word.Out))
+      (cond (eqb name Name.word) (line (cond (ltb n (length ws)) (Word.Hex (getD ws n 0)) Word.Out) [])
       (cond (eqb name Name.decode) (decodedLine (decodeOf n))
-      (cond (eqb name Name.order) (lineOf (ok (orderOf n ∷ [])))
-      (oneWord Word.Bad))))
+      (cond (eqb name Name.order) (line Word.Ok (Value.Number (orderOf n) ∷ []))
+      (line Word.Bad []))))
 
   -- a name and a number; `words N` lends up to 8,192 words, and makes the record the empty one
   unfoldable pub withNumber : ℕ → ℕ → Did
   withNumber name n =
-      cond (eqb name Name.alloc) (calls (allocatePromise r ws n))
-      (cond (eqb name Name.slab) (calls (slabPromise r ws n))
-      (cond (eqb name Name.free) (calls (freePromise r ws n))
-      (cond (eqb name Name.get) (calls (getPromise r ws n))
-      (cond (eqb name Name.put) (calls (putPromise r ws n))
-      (cond (eqb name Name.words) (cond (leb n 8192) (did emptyRegion ws (Answer.Lent n)) bad)
-      (says (reads name n)))))))
+      cond (eqb name Name.alloc) (calls (promise r ws (forBlock n)))
+      (cond (eqb name Name.slab) (calls (promise r ws (forSlab n)))
+      (cond (eqb name Name.free) (calls (promise r ws (on toFree n)))
+      (cond (eqb name Name.get) (calls (promise r ws (on toGet n)))
+      (cond (eqb name Name.put) (calls (promise r ws (on toPut n)))
+      (cond (eqb name Name.words) (cond (leb n 8192) (did emptyRegion ws (Reply.Lent n)) bad)
+      (says r ws (reads name n)))))))
 
   -- a name and two numbers: `poke I HEX` overwrites a lent word
   unfoldable pub withTwo : ℕ → ℕ → ℕ → Did
   withTwo name i w =
-      cond (eqb name Name.poke) (cond (ltb i (length ws)) (did r (set ws i w) (Answer.Line (oneWord Word.Ok))) (says (oneWord Word.Out)))
+      cond (eqb name Name.poke) (cond (ltb i (length ws)) (says r (set ws i w) (line Word.Ok [])) (says r ws (line Word.Out [])))
       bad
 
   -- a name and three numbers; `field` has a name for the first
   unfoldable pub withThree : ℕ → ℕ → ℕ → ℕ → Did
   withThree name x y z =
       cond (eqb name Name.setup) (calls (setUpPromise (record { 0 = x }) y z ws))
-      (cond (eqb name Name.field) (cond (hasField x y) (did (withField r x y z) ws (Answer.Line (oneWord Word.Ok))) bad)
-      (cond (eqb name Name.encode) (says (encodedLine (encodeFields x y z)))
+      (cond (eqb name Name.field) (cond (hasField x y) (says (withField r x y z) ws (line Word.Ok [])) bad)
+      (cond (eqb name Name.encode) (says r ws (encodedLine (encodeFields x y z)))
       bad))
 
   -- a request is known by its name and the count of its words
-  unfoldable pub acted : Request → Did
+  unfoldable pub acted : Command → Did
   acted q =
       let v : ℕ → ℕ = λ i. getD (q .values) i 0 in
       cond (eqb (q .count) 1) (alone (v 0))

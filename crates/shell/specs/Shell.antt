@@ -4,8 +4,8 @@ use Prim.Native.Nat.{min}
 use Rattle.region.specs.declared.HeapMemoryRegion.{HeapMemoryRegion}
 use Rattle.parse.specs.Line.{parsed}
 use Rattle.shell.specs.Request.{acted}
-use Rattle.shell.specs.declared.steps.Answer.{Answer}
-use Rattle.shell.specs.declared.steps.Answer.the-variants.{Line, Lent, Text}
+use Rattle.shell.specs.declared.steps.Reply.{Reply}
+use Rattle.shell.specs.declared.steps.Reply.the-variants.{Line, Lent, Text}
 
 pub record Held : Type 0 where
   pub region : HeapMemoryRegion
@@ -20,7 +20,7 @@ abbrev pub lends : HeapMemoryRegion → ℕ → List ℕ → Held
 lends r n ws = let k = min n (length ws) in held r k (replicate k 15 ++ drop k ws)
 
 -- the lent words that a request left, before the others
-abbrev pub settled : HeapMemoryRegion → ℕ → List ℕ → Answer → Held
+abbrev pub settled : HeapMemoryRegion → ℕ → List ℕ → Reply → Held
 settled r n ws (Line l) = held r n ws
 settled r n ws (Lent k) = lends r k ws
 settled r n ws (Text name) = held r n ws
@@ -29,5 +29,5 @@ settled r n ws (Text name) = held r n ws
 unfoldable pub answered : HeapMemoryRegion → ℕ → List ℕ → List ℕ → Held
 answered r n ws text =
     cond (leb n (length ws))
-    (let x = acted r (take n ws) (parsed text) in settled (x .region) n (x .words ++ drop n ws) (x .answer))
+    (let x = acted r (take n ws) (parsed text) in settled (x .region) n (x .words ++ drop n ws) (x .reply))
     (held r n ws)

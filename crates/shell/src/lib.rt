@@ -1,6 +1,7 @@
 // The shell over the heap: a request is a line, and its answer is text. The record and the lent words stay between lines.
-// For the program `heapsh`, which reads lines and lends the buffers. Below it stand `ask`, which takes a line apart, `show`, which writes
-// text, and the calls of `heap`. What a line leaves stands in specs/Shell.antt; of `used` and of the text in `out` nothing is promised.
+// For the program `heapsh`, which reads lines and lends the buffers. Below it stand `parse`, which takes a line apart, `answers`, which
+// makes the text, and the calls of `heap`. What a line leaves stands in specs/Shell.antt; of `used` and of what is written to `out` nothing
+// is promised.
 ghost use mathlib.Core.Path.{_≡_};
 ghost use mathlib.Core.List.{_++_};
 ghost use Prim.Native.Nat.{_≤_, min};
@@ -8,7 +9,7 @@ ghost use lib.ListN.{length, drop, replicate};
 ghost use Rattle.heap.specs.Promise.{emptyRegion};
 ghost use Rattle.shell.specs.Shell.{held, settled, answered};
 use crate::requests::act;
-use crate::steps::Answer;
+use crate::steps::Reply;
 use crate::steps::Step;
 use answers::texts::write_text;
 use heap::start::empty_region;
@@ -49,9 +50,7 @@ pub fn fresh() -> Shell
 pub fn answer(shell: Shell, line: &[u8], buffer: &mut [u64], out: &mut [u8]) -> Shell
     ensures { λ r. ⌜ held (r .region) (r .lent) (now (buffer .exit)) ≡ answered (shell .region) (shell .lent) (now (buffer .entry)) (now (line .entry)) ⌝ }
 {
-    let region = shell.region;
-    let lent = shell.lent;
-    let used = shell.used;
+    let Shell { region, lent, used } = shell;
     if buffer.len() < lent {
         return shell;
     }
@@ -59,25 +58,24 @@ pub fn answer(shell: Shell, line: &[u8], buffer: &mut [u64], out: &mut [u8]) -> 
     finish(done, lent, used, buffer, out)
 }
 
-// Writes the answer, and lends other words if it says so.
+// Writes the reply, and lends other words if it says so.
 fn finish(done: Step, lent: usize, used: usize, buffer: &mut [u64], out: &mut [u8]) -> Shell
     requires { ⌜ lent ≤ length (now buffer) ⌝ }
-    ensures { λ r. ⌜ held (r .region) (r .lent) (now (buffer .exit)) ≡ settled (done .region) lent (now (buffer .entry)) (done .answer) ⌝ }
+    ensures { λ r. ⌜ held (r .region) (r .lent) (now (buffer .exit)) ≡ settled (done .region) lent (now (buffer .entry)) (done .reply) ⌝ }
 {
-    let region = done.region;
-    let answer = done.answer;
-    match answer {
-        Answer::Line(line) => Shell {
+    let Step { region, reply } = done;
+    match reply {
+        Reply::Line(line) => Shell {
             region,
             lent,
             used: write(out, used, line),
         },
-        Answer::Lent(n) => Shell {
+        Reply::Lent(n) => Shell {
             region,
             lent: reserve(buffer, n),
             used: write(out, used, bare(Word::Ok)),
         },
-        Answer::Text(request) => Shell {
+        Reply::Text(request) => Shell {
             region,
             lent,
             used: write_text(out, used, request, region, &buffer[0..lent]),

@@ -16,7 +16,7 @@ use words::word::MAX_ORDER;
 
 // Overwrites a field: one of an array, where `i` is an order, or one that stands alone, where it is 0.
 pub fn field(region: HeapMemoryRegion, name: u64, i: usize, value: u64) -> Step
-    ensures { λ r. ⌜ ((ws : List ℕ) → did (r .region) ws (r .answer) ≡ withThree region ws Name.field name i value) ⌝ }
+    ensures { λ r. ⌜ ((ws : List ℕ) → did (r .region) ws (r .reply) ≡ withThree region ws Name.field name i value) ⌝ }
 {
     if has_field(name, i) {
         said(with_field(region, name, i, value), bare(Word::Ok))

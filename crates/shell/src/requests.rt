@@ -4,23 +4,18 @@ ghost use mathlib.Core.List.{List};
 ghost use Prim.Native.Nat.{ℕ};
 ghost use Rattle.region.specs.declared.HeapMemoryRegion.{HeapMemoryRegion};
 ghost use Rattle.parse.specs.Names as Name;
-ghost use Rattle.shell.specs.Request.{did, alone, reads, withNumber, withTwo, withThree, acted};
-ghost use Rattle.shell.specs.declared.steps.Answer.{Answer};
+ghost use Rattle.shell.specs.Request.{did, says, alone, reads, withNumber, withTwo, withThree, acted};
 use crate::MOST_WORDS;
 use crate::record::field;
-use crate::steps::Answer;
+use crate::steps::Reply;
 use crate::steps::Step;
-use crate::steps::counted;
-use crate::steps::finished;
-use crate::steps::granted;
 use crate::steps::said;
+use crate::steps::told;
 use answers::lines::bad;
 use answers::lines::number;
-use answers::lines::of_count;
+use answers::lines::of_answer;
 use answers::lines::of_decoded;
-use answers::lines::of_done;
 use answers::lines::of_encoded;
-use answers::lines::of_layout;
 use heap::reads::audit;
 use heap::reads::layout_from_ptr;
 use heap::requests::allocate_file_page;
@@ -32,20 +27,26 @@ use heap::requests::put_file_page;
 use heap::start::empty_region;
 use heap::start::root_mem_init;
 use heap::word;
-use parse::input::Request;
+use parse::input::Command;
 use parse::names;
 use region::HeapMemoryRegion;
+use sound_calls::Counted;
+use sound_calls::Finished;
+use sound_calls::Granted;
+use sound_calls::of_count;
+use sound_calls::of_done;
+use sound_calls::of_grant;
+use sound_calls::of_layout;
 use text::answer::Line;
 use text::answer::Word;
 use text::answer::bare;
 use words::place::VirtAddr;
 
 // Does what a request asks for. It is known by its name and the count of its words.
-pub fn act(region: HeapMemoryRegion, words: &mut [u64], request: Request) -> Step
-    ensures { λ r. ⌜ did (r .region) (now (words .exit)) (r .answer) ≡ acted region (now (words .entry)) request ⌝ }
+pub fn act(region: HeapMemoryRegion, words: &mut [u64], request: Command) -> Step
+    ensures { λ r. ⌜ did (r .region) (now (words .exit)) (r .reply) ≡ acted region (now (words .entry)) request ⌝ }
 {
-    let count = request.count;
-    let values = request.values;
+    let Command { count, values } = request;
     let name = values[0];
     match count {
         1 => plain(region, words, name),
@@ -58,14 +59,17 @@ pub fn act(region: HeapMemoryRegion, words: &mut [u64], request: Request) -> Ste
 
 // A name alone.
 fn plain(region: HeapMemoryRegion, words: &mut [u64], name: u64) -> Step
-    ensures { λ r. ⌜ did (r .region) (now (words .exit)) (r .answer) ≡ alone region (now (words .entry)) name ⌝ }
+    ensures { λ r. ⌜ did (r .region) (now (words .exit)) (r .reply) ≡ alone region (now (words .entry)) name ⌝ }
 {
     match name {
-        names::FILE => granted(allocate_file_page(region, words)),
-        names::AUDIT => said(region, of_done(audit(region, words))),
+        names::FILE => {
+            let Granted { region, answer } = allocate_file_page(region, words);
+            told(region, of_grant(answer))
+        }
+        names::AUDIT => told(region, of_done(audit(region, words))),
         names::REPORT | names::PRINT | names::LISTS | names::STATE | names::HELP => Step {
             region,
-            answer: Answer::Text(name),
+            reply: Reply::Text(name),
         },
         _ => said(region, bad()),
     }
@@ -73,14 +77,26 @@ fn plain(region: HeapMemoryRegion, words: &mut [u64], name: u64) -> Step
 
 // A name and a number.
 fn with_number(region: HeapMemoryRegion, words: &mut [u64], name: u64, n: u64) -> Step
-    ensures { λ r. ⌜ did (r .region) (now (words .exit)) (r .answer) ≡ withNumber region (now (words .entry)) name n ⌝ }
+    ensures { λ r. ⌜ did (r .region) (now (words .exit)) (r .reply) ≡ withNumber region (now (words .entry)) name n ⌝ }
 {
     match name {
-        names::ALLOC => granted(allocate_pages(region, words, n as usize)),
-        names::SLAB => granted(allocate_slab_page(region, words, n)),
-        names::FREE => finished(free_page(region, words, VirtAddr(n))),
-        names::GET => said(region, of_count(get_file_page(region, words, VirtAddr(n)))),
-        names::PUT => counted(put_file_page(region, words, VirtAddr(n))),
+        names::ALLOC => {
+            let Granted { region, answer } = allocate_pages(region, words, n as usize);
+            told(region, of_grant(answer))
+        }
+        names::SLAB => {
+            let Granted { region, answer } = allocate_slab_page(region, words, n);
+            told(region, of_grant(answer))
+        }
+        names::FREE => {
+            let Finished { region, answer } = free_page(region, words, VirtAddr(n));
+            told(region, of_done(answer))
+        }
+        names::GET => told(region, of_count(get_file_page(region, words, VirtAddr(n)))),
+        names::PUT => {
+            let Counted { region, answer } = put_file_page(region, words, VirtAddr(n));
+            told(region, of_count(answer))
+        }
         names::WORDS => lend(region, n as usize),
         _ => said(region, read_with(region, words, name, n)),
     }
@@ -91,7 +107,7 @@ fn read_with(region: HeapMemoryRegion, words: &[u64], name: u64, n: u64) -> Line
     ensures { λ r. ⌜ r ≡ reads region (now (words .entry)) name n ⌝ }
 {
     match name {
-        names::LOOKUP => of_layout(layout_from_ptr(region, words, VirtAddr(n))),
+        names::LOOKUP => of_answer(of_layout(layout_from_ptr(region, words, VirtAddr(n)))),
         names::WORD => word_at(words, n as usize),
         names::DECODE => of_decoded(word::decode(n)),
         names::ORDER => number(word::get_order(n as usize) as u64),
@@ -101,12 +117,12 @@ fn read_with(region: HeapMemoryRegion, words: &[u64], name: u64, n: u64) -> Line
 
 // So many words, all Reserved, and the empty record.
 fn lend(region: HeapMemoryRegion, n: usize) -> Step
-    ensures { λ r. ⌜ ((ws : List ℕ) → did (r .region) ws (r .answer) ≡ withNumber region ws Name.words n) ⌝ }
+    ensures { λ r. ⌜ ((ws : List ℕ) → did (r .region) ws (r .reply) ≡ withNumber region ws Name.words n) ⌝ }
 {
     if n <= MOST_WORDS {
         Step {
             region: empty_region(),
-            answer: Answer::Lent(n),
+            reply: Reply::Lent(n),
         }
     } else {
         said(region, bad())
@@ -125,7 +141,7 @@ fn word_at(words: &[u64], i: usize) -> Line
 
 // A name and two numbers.
 fn with_two(words: &mut [u64], name: u64, x: u64, y: u64) -> Line
-    ensures { λ l. ⌜ ((r : HeapMemoryRegion) → did r (now (words .exit)) (Answer.Line l) ≡ withTwo r (now (words .entry)) name x y) ⌝ }
+    ensures { λ l. ⌜ ((r : HeapMemoryRegion) → says r (now (words .exit)) l ≡ withTwo r (now (words .entry)) name x y) ⌝ }
 {
     match name {
         names::POKE => poke(words, x as usize, y),
@@ -134,7 +150,7 @@ fn with_two(words: &mut [u64], name: u64, x: u64, y: u64) -> Line
 }
 
 fn poke(words: &mut [u64], i: usize, w: u64) -> Line
-    ensures { λ l. ⌜ ((r : HeapMemoryRegion) → did r (now (words .exit)) (Answer.Line l) ≡ withTwo r (now (words .entry)) Name.poke i w) ⌝ }
+    ensures { λ l. ⌜ ((r : HeapMemoryRegion) → says r (now (words .exit)) l ≡ withTwo r (now (words .entry)) Name.poke i w) ⌝ }
 {
     if i < words.len() {
         words[i] = w;
@@ -153,10 +169,18 @@ fn with_three(
     y: u64,
     z: u64,
 ) -> Step
-    ensures { λ r. ⌜ did (r .region) (now (words .exit)) (r .answer) ≡ withThree region (now (words .entry)) name x y z ⌝ }
+    ensures { λ r. ⌜ did (r .region) (now (words .exit)) (r .reply) ≡ withThree region (now (words .entry)) name x y z ⌝ }
 {
     match name {
-        names::SETUP => finished(root_mem_init(VirtAddr(x), y as usize, z as usize, words)),
+        names::SETUP => {
+            let Finished { region, answer } = root_mem_init(
+                VirtAddr(x),
+                y as usize,
+                z as usize,
+                words,
+            );
+            told(region, of_done(answer))
+        }
         names::FIELD => field(region, x, y as usize, z),
         names::ENCODE => said(region, of_encoded(word::encode_fields(x, y, z))),
         _ => said(region, bad()),

@@ -1,18 +1,14 @@
-// What a request comes to: the record after it, and the answer.
+// What a request comes to: the record after it, and the reply.
 ghost use mathlib.Core.Path.{_≡_};
-ghost use Rattle.sound_calls.specs.Told.{done, grant, count};
-ghost use Rattle.answers.specs.Answer.{lineOf};
+ghost use Rattle.answers.specs.Lines.{lineOf};
 ghost use Rattle.shell.specs.Request.{step};
-use answers::lines::of_count;
-use answers::lines::of_done;
-use answers::lines::of_grant;
+use answers::lines::of_answer;
 use region::HeapMemoryRegion;
-use sound_calls::Counted;
-use sound_calls::Finished;
-use sound_calls::Granted;
+use sound_calls::Answer;
 use text::answer::Line;
 
-pub enum Answer {
+// What the shell replies to a request. (An `Answer` is the heap's, to a call.)
+pub enum Reply {
     Line(Line),
     // So many words are lent from now on.
     Lent(usize),
@@ -20,10 +16,9 @@ pub enum Answer {
     Text(u64),
 }
 
-// The record after a request, and the answer.
 pub struct Step {
     pub region: HeapMemoryRegion,
-    pub answer: Answer,
+    pub reply: Reply,
 }
 
 pub fn said(region: HeapMemoryRegion, line: Line) -> Step
@@ -31,30 +26,13 @@ pub fn said(region: HeapMemoryRegion, line: Line) -> Step
 {
     Step {
         region,
-        answer: Answer::Line(line),
+        reply: Reply::Line(line),
     }
 }
 
-pub fn granted(call: Granted) -> Step
-    ensures { λ r. ⌜ r ≡ step (call .region) (lineOf (grant (call .answer))) ⌝ }
+// An answer of the heap, as a line.
+pub fn told(region: HeapMemoryRegion, answer: Answer) -> Step
+    ensures { λ r. ⌜ r ≡ step region (lineOf answer) ⌝ }
 {
-    let region = call.region;
-    let grant = call.answer;
-    said(region, of_grant(grant))
-}
-
-pub fn finished(call: Finished) -> Step
-    ensures { λ r. ⌜ r ≡ step (call .region) (lineOf (done (call .answer))) ⌝ }
-{
-    let region = call.region;
-    let done = call.answer;
-    said(region, of_done(done))
-}
-
-pub fn counted(call: Counted) -> Step
-    ensures { λ r. ⌜ r ≡ step (call .region) (lineOf (count (call .answer))) ⌝ }
-{
-    let region = call.region;
-    let count = call.answer;
-    said(region, of_count(count))
+    said(region, of_answer(answer))
 }

@@ -1,5 +1,5 @@
 pub mod Answers
-pub mod Good
+pub mod SoundInput
 pub mod Typing
 pub mod Patterns
 pub mod Places
@@ -9,5 +9,5 @@ pub mod FreeLaws
 pub mod FileLaws
 pub mod Requests
 pub mod Refused
-pub mod Ways
+pub mod Outcomes
 pub mod Keeps

@@ -11,7 +11,7 @@ use Rattle.words.proofs.place.PageAt as place
 use Rattle.words.proofs.word.PageInfo as info
 use Rattle.region.specs.declared.HeapMemoryRegion.{HeapMemoryRegion}
 use Rattle.region.specs.declared.lists.Found.the-variants.{Nothing}
-use Rattle.sound_calls.specs.Told.{no, Result}
+use Rattle.sound_calls.specs.Answer.{no, Result}
 use Rattle.sound_calls.specs.Promise.{kept, layoutOf, atPage}
 use Rattle.sound_calls.specs.Code.{freeable}
 

@@ -9,8 +9,8 @@ use Rattle.buddy.proofs.Refill.{never}
 use Rattle.pages.specs.Said.{said}
 use Rattle.region.specs.Sound.{Sound}
 use Rattle.region.specs.declared.HeapMemoryRegion.{HeapMemoryRegion}
-use Rattle.sound_calls.specs.Told.{ok, no, grant, Result}
-use Rattle.sound_calls.specs.Promise.{kept, layoutOf, atPage, onPage, lookedUp, soundLookup}
+use Rattle.sound_calls.specs.Answer.{ok, no, grant, Result}
+use Rattle.sound_calls.specs.Promise.{kept, layoutOf, atPage, onPage, lookedUp, looksUp}
 use Rattle.sound_calls.specs.Code.{addressGrant}
 
 -- where an address lies in a region
@@ -23,15 +23,15 @@ start-in r a p e = subst (Starts (r .«start_virt» .0) (r .«page_count») a) e
 -- the page that a lookup reads: it rounds down to one
 pub record Names (r : HeapMemoryRegion) (ws : List ℕ) (a : ℕ) (p : PageNumber) : Type 0 where
   pub page : p .0 < r .«page_count»
-  pub looked : layoutOf a (said ws (p .0)) ≡ soundLookup r ws a
+  pub looked : layoutOf a (said ws (p .0)) ≡ looksUp r ws a
 
 module _ (r : HeapMemoryRegion) (ws : List ℕ) (a : ℕ) (p : PageNumber) where
   pub start-names : place r a ≡ Start p → Names r ws a p
-  unfolding soundLookup lookedUp
+  unfolding looksUp lookedUp
   start-names e = record { page = start-in r a p e; looked = rw e }
 
   pub within-names : place r a ≡ Within p → Names r ws a p
-  unfolding soundLookup lookedUp
+  unfolding looksUp lookedUp
   within-names e = record { page = subst (Starts (r .«start_virt» .0) (r .«page_count») a) e (starts _ _ a); looked = rw e }
 
 pub address-told : {r : HeapMemoryRegion} {ws : List ℕ} → Sound r ws → (p : ℕ) → p < r .«page_count»

@@ -1,4 +1,4 @@
--- What the code's types give: the record, by value, has arrays of six, and the lent words have 64 bits. So what the code calls sound is good.
+-- What the code's types give: the record, by value, has arrays of six, and the lent words have 64 bits. So what the code calls sound is sound input.
 use Rattle.common.specs.Kit.{ℕ, sym, _∙_, List, getD, length-map, arith}
 use mir.Syntax.{w64}
 use mir.Val.{Val, Fits}
@@ -7,9 +7,9 @@ use denote.Struct.Declared.{row}
 use Rattle.region.specs.Sound.{Sound}
 use Rattle.region.specs.declared.HeapMemoryRegion.{HeapMemoryRegion}
 use Rattle.region.proofs.HeapMemoryRegion.{the-type}
-use Rattle.sound_calls.proofs.Good.{Good}
+use Rattle.sound_calls.proofs.SoundInput.{SoundInput}
 
-pub good : (r : HeapMemoryRegion) (ws : List ℕ) (vs : List Val) → Is (row the-type) r vs → ((i : ℕ) → Fits w64 (getD ws i 0)) → Sound r ws → Good r ws
+pub good : (r : HeapMemoryRegion) (ws : List ℕ) (vs : List Val) → Is (row the-type) r vs → ((i : ℕ) → Fits w64 (getD ws i 0)) → Sound r ws → SoundInput r ws
 good r ws vs is fits sound = record {
   typed = record {
     nr = sym (length-map (r .«nr_pages») _) ∙ is .1 .1 .1 .1 .1 .0 .1 .0 .1;

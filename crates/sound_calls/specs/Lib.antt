@@ -1,4 +1,4 @@
-pub mod Told
+pub mod Answer
 pub mod Promise
 pub mod Files
 pub mod Code

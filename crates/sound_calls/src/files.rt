@@ -4,8 +4,9 @@ ghost use Prim.Native.Nat.{_<_};
 ghost use lib.ListN.{length};
 ghost use Rattle.region.specs.Sound.{Sound};
 ghost use Rattle.region.specs.State.{st, Gives};
-ghost use Rattle.sound_calls.specs.Told.{result, count};
-ghost use Rattle.sound_calls.specs.Promise.{soundGet, soundPut};
+ghost use Rattle.buddy.specs.Request.{on, toGet, toPut};
+ghost use Rattle.sound_calls.specs.Answer.{result, count};
+ghost use Rattle.sound_calls.specs.Promise.{does};
 ghost use Rattle.sound_calls.specs.Files.{gotCount, gotWords, PutFileOk, putCount, putState};
 use crate::AllocError;
 use crate::Count;
@@ -23,7 +24,7 @@ use words::word::PageInfo;
 // One more reference to a file page, by its number.
 fn get_at(words: &mut [u64], pfn: usize, vaddr: VirtAddr) -> Count
     requires { ⌜ pfn < length (now words) ⌝ }
-    ensures answer { λ r. ⌜ r ≡ gotCount vaddr pfn (now (words .entry)) ⌝ }
+    ensures answer { λ r. ⌜ count r ≡ gotCount (vaddr .0) pfn (now (words .entry)) ⌝ }
     ensures words { λ _. ⌜ now (words .exit) ≡ gotWords pfn (now (words .entry)) ⌝ }
 {
     let Decoded::Info(info) = read_page_info(words, pfn) else {
@@ -49,7 +50,7 @@ fn get_at(words: &mut [u64], pfn: usize, vaddr: VirtAddr) -> Count
 // One reference less to a file page, by its number; at 0 the page is freed.
 fn put_at(region: HeapMemoryRegion, words: &mut [u64], pfn: usize, vaddr: VirtAddr) -> Counted
     requires { ⌜ PutFileOk pfn (st region (now words)) ⌝ }
-    ensures { λ r. ⌜ Gives (putCount vaddr pfn (st region (now (words .entry)))) (putState pfn (st region (now (words .entry)))) (r .answer) (st (r .region) (now (words .exit))) ⌝ }
+    ensures { λ r. ⌜ Gives (putCount (vaddr .0) pfn (now (words .entry))) (putState pfn (st region (now (words .entry)))) (count (r .answer)) (st (r .region) (now (words .exit))) ⌝ }
 {
     let Decoded::Info(info) = read_page_info(words, pfn) else {
         return Counted {
@@ -86,7 +87,7 @@ fn put_at(region: HeapMemoryRegion, words: &mut [u64], pfn: usize, vaddr: VirtAd
 
 pub fn get_file_page(region: HeapMemoryRegion, words: &mut [u64], vaddr: VirtAddr) -> Count
     requires { ⌜ Sound region (now words) ⌝ }
-    ensures { λ r. ⌜ result (count r) region (now (words .exit)) ≡ soundGet region (now (words .entry)) (vaddr .0) ⌝ }
+    ensures { λ r. ⌜ result (count r) region (now (words .exit)) ≡ does region (now (words .entry)) (on toGet (vaddr .0)) ⌝ }
 {
     let start_virt = region.start_virt;
     let place = vaddr.get_pfn(start_virt, region.page_count as u64);
@@ -98,7 +99,7 @@ pub fn get_file_page(region: HeapMemoryRegion, words: &mut [u64], vaddr: VirtAdd
 
 pub fn put_file_page(region: HeapMemoryRegion, words: &mut [u64], vaddr: VirtAddr) -> Counted
     requires { ⌜ Sound region (now words) ⌝ }
-    ensures { λ r. ⌜ result (count (r .answer)) (r .region) (now (words .exit)) ≡ soundPut region (now (words .entry)) (vaddr .0) ⌝ }
+    ensures { λ r. ⌜ result (count (r .answer)) (r .region) (now (words .exit)) ≡ does region (now (words .entry)) (on toPut (vaddr .0)) ⌝ }
 {
     let start_virt = region.start_virt;
     let place = vaddr.get_pfn(start_virt, region.page_count as u64);

@@ -1,8 +1,9 @@
 // The free of a block by its address.
 ghost use mathlib.Core.Path.{_≡_};
 ghost use Rattle.region.specs.Sound.{Sound};
-ghost use Rattle.sound_calls.specs.Told.{result, done};
-ghost use Rattle.sound_calls.specs.Promise.{soundFree};
+ghost use Rattle.buddy.specs.Request.{on, toFree};
+ghost use Rattle.sound_calls.specs.Answer.{result, done};
+ghost use Rattle.sound_calls.specs.Promise.{does};
 ghost use Rattle.sound_calls.specs.Code.{freeable};
 ghost use Rattle.sound_calls.specs.declared.Done.{Done};
 use crate::AllocError;
@@ -18,7 +19,7 @@ use words::word::Decoded;
 use words::word::PageInfo;
 
 // The order of the block that a free takes at this word.
-fn free_order(said: Decoded) -> Found
+fn order_to_free(said: Decoded) -> Found
     ensures { λ r. ⌜ r ≡ freeable said ⌝ }
 {
     let Decoded::Info(info) = said else {
@@ -43,7 +44,7 @@ fn refused(region: HeapMemoryRegion, why: AllocError) -> Finished
 
 pub fn free_page(region: HeapMemoryRegion, words: &mut [u64], vaddr: VirtAddr) -> Finished
     requires { ⌜ Sound region (now words) ⌝ }
-    ensures { λ r. ⌜ result (done (r .answer)) (r .region) (now (words .exit)) ≡ soundFree region (now (words .entry)) (vaddr .0) ⌝ }
+    ensures { λ r. ⌜ result (done (r .answer)) (r .region) (now (words .exit)) ≡ does region (now (words .entry)) (on toFree (vaddr .0)) ⌝ }
 {
     let start_virt = region.start_virt;
     let place = vaddr.get_pfn(start_virt, region.page_count as u64);
@@ -54,7 +55,7 @@ pub fn free_page(region: HeapMemoryRegion, words: &mut [u64], vaddr: VirtAddr) -
     if pfn < region.allocated {
         return refused(region, AllocError::BootPage(vaddr));
     }
-    let order = free_order(read_page_info(words, pfn));
+    let order = order_to_free(read_page_info(words, pfn));
     let Found::At(order) = order else {
         return refused(region, AllocError::InvalidPageType(vaddr));
     };

@@ -1,20 +1,19 @@
 // Grants: a block of an order, a file page, a slab page.
 ghost use mathlib.Core.Path.{_≡_};
-ghost use mathlib.Core.Bool.{_&&_};
-ghost use lib.Dec.{leb};
 ghost use Rattle.words.specs.Place.{addressAt};
-ghost use Rattle.region.specs.Pages.{goodItem};
+ghost use Rattle.buddy.specs.Request.{forBlock, forFile, forSlab};
 ghost use Rattle.region.specs.Sound.{Sound};
 ghost use Rattle.region.specs.State.{st};
 ghost use Rattle.region.specs.Steps.{GrantOk};
 ghost use Rattle.sound_calls.specs.Code.{addressGrant, codeGrants};
-ghost use Rattle.sound_calls.specs.Told.{result, grant};
-ghost use Rattle.sound_calls.specs.Promise.{soundAllocate, soundFile, soundSlab};
+ghost use Rattle.sound_calls.specs.Answer.{result, grant};
+ghost use Rattle.sound_calls.specs.Promise.{does};
 use crate::AllocError;
 use crate::Grant;
 use crate::Granted;
 use grant::allocate_pages_info;
 use grant::find_order;
+use pages::good_item;
 use region::HeapMemoryRegion;
 use region::lists::Found;
 use words::place::AddressAt;
@@ -24,7 +23,6 @@ use words::word::AllocatedInfo;
 use words::word::FileInfo;
 use words::word::MAX_ORDER;
 use words::word::PageInfo;
-use words::word::PageStorageType;
 use words::word::SlabPageInfo;
 
 // The answer for a page of a region.
@@ -68,7 +66,7 @@ fn allocate_info(
 
 pub fn allocate_pages(region: HeapMemoryRegion, words: &mut [u64], order: usize) -> Granted
     requires { ⌜ Sound region (now words) ⌝ }
-    ensures { λ r. ⌜ result (grant (r .answer)) (r .region) (now (words .exit)) ≡ soundAllocate region (now (words .entry)) order ⌝ }
+    ensures { λ r. ⌜ result (grant (r .answer)) (r .region) (now (words .exit)) ≡ does region (now (words .entry)) (forBlock order) ⌝ }
 {
     if MAX_ORDER <= order {
         return Granted {
@@ -86,26 +84,15 @@ pub fn allocate_pages(region: HeapMemoryRegion, words: &mut [u64], order: usize)
 
 pub fn allocate_file_page(region: HeapMemoryRegion, words: &mut [u64]) -> Granted
     requires { ⌜ Sound region (now words) ⌝ }
-    ensures { λ r. ⌜ result (grant (r .answer)) (r .region) (now (words .exit)) ≡ soundFile region (now (words .entry)) ⌝ }
+    ensures { λ r. ⌜ result (grant (r .answer)) (r .region) (now (words .exit)) ≡ does region (now (words .entry)) forFile ⌝ }
 {
     allocate_info(region, words, 0, PageInfo::File(FileInfo { ref_count: 1 }))
-}
-
-// An item size that a slab page may have.
-fn good_item(item_size: u64) -> bool
-    ensures { λ r. ⌜ r ≡ (goodItem «item_size» && leb «item_size» 65535) ⌝ }
-{
-    if item_size == 0 {
-        false
-    } else {
-        item_size <= PageStorageType::SLAB_MASK
-    }
 }
 
 // A heap without a free block refuses any item for want of memory; only then a bad item is refused as such.
 pub fn allocate_slab_page(region: HeapMemoryRegion, words: &mut [u64], item_size: u64) -> Granted
     requires { ⌜ Sound region (now words) ⌝ }
-    ensures { λ r. ⌜ result (grant (r .answer)) (r .region) (now (words .exit)) ≡ soundSlab region (now (words .entry)) «item_size» ⌝ }
+    ensures { λ r. ⌜ result (grant (r .answer)) (r .region) (now (words .exit)) ≡ does region (now (words .entry)) (forSlab «item_size») ⌝ }
 {
     if good_item(item_size) {
         return allocate_info(region, words, 0, PageInfo::Slab(SlabPageInfo { item_size }));

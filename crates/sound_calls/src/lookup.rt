@@ -1,8 +1,8 @@
 // The layout of a block by an address in its first page.
 ghost use mathlib.Core.Path.{_≡_};
 ghost use Rattle.region.specs.Sound.{Sound};
-ghost use Rattle.sound_calls.specs.Told.{layout};
-ghost use Rattle.sound_calls.specs.Promise.{layoutOf, soundLookup};
+ghost use Rattle.sound_calls.specs.Answer.{layout};
+ghost use Rattle.sound_calls.specs.Promise.{layoutOf, looksUp};
 ghost use Rattle.sound_calls.specs.Code.{SaidOk};
 use crate::AllocError;
 use crate::Layout;
@@ -39,7 +39,7 @@ fn layout_of(said: Decoded, vaddr: VirtAddr) -> Layout
 
 pub fn layout_from_ptr(region: HeapMemoryRegion, words: &[u64], vaddr: VirtAddr) -> Layout
     requires { ⌜ Sound region (now words) ⌝ }
-    ensures { λ r. ⌜ layout r ≡ soundLookup region (now (words .entry)) (vaddr .0) ⌝ }
+    ensures { λ r. ⌜ layout r ≡ looksUp region (now (words .entry)) (vaddr .0) ⌝ }
 {
     let start_virt = region.start_virt;
     let place = vaddr.get_pfn(start_virt, region.page_count as u64);

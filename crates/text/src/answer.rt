@@ -1,7 +1,7 @@
-// An answer of one line: a word, and up to two values.
+// An answer of one line: a word, and up to three values.
 ghost use mathlib.Core.Path.{_≡_};
+ghost use mathlib.Core.List.{[], _∷_};
 ghost use Rattle.text.specs.Line.{line};
-ghost use Rattle.text.specs.declared.answer.Value.{Value};
 use crate::hex;
 use crate::named;
 use crate::text;
@@ -29,35 +29,49 @@ pub enum Value {
 
 pub struct Line {
     word: Word,
-    a: Value,
-    b: Value,
+    first: Value,
+    second: Value,
+    third: Value,
 }
 
 pub fn bare(word: Word) -> Line
-    ensures { λ r. ⌜ r ≡ line word Value.None Value.None ⌝ }
+    ensures { λ r. ⌜ r ≡ line word [] ⌝ }
 {
     with(word, Value::None)
 }
 
-pub fn with(word: Word, a: Value) -> Line
-    ensures { λ r. ⌜ r ≡ line word a Value.None ⌝ }
+pub fn with(word: Word, first: Value) -> Line
+    ensures { λ r. ⌜ r ≡ line word (first ∷ []) ⌝ }
 {
-    with_both(word, a, Value::None)
+    with_both(word, first, Value::None)
 }
 
-pub fn with_both(word: Word, a: Value, b: Value) -> Line
-    ensures { λ r. ⌜ r ≡ line word a b ⌝ }
+pub fn with_both(word: Word, first: Value, second: Value) -> Line
+    ensures { λ r. ⌜ r ≡ line word (first ∷ second ∷ []) ⌝ }
 {
-    Line { word, a, b }
+    with_all(word, first, second, Value::None)
+}
+
+pub fn with_all(word: Word, first: Value, second: Value, third: Value) -> Line
+    ensures { λ r. ⌜ r ≡ line word (first ∷ second ∷ third ∷ []) ⌝ }
+{
+    Line {
+        word,
+        first,
+        second,
+        third,
+    }
 }
 
 pub fn write(out: &mut [u8], at: usize, line: Line) -> usize {
     let word = line.word;
-    let a = line.a;
-    let b = line.b;
+    let first = line.first;
+    let second = line.second;
+    let third = line.third;
     let mut used = write_word(out, at, word);
-    used = write_value(out, used, a);
-    used = write_value(out, used, b);
+    used = write_value(out, used, first);
+    used = write_value(out, used, second);
+    used = write_value(out, used, third);
     text(out, used, b"\n")
 }
 

@@ -1,4 +1,4 @@
-// The memory report as seven lines (document 01, "Cases").
+// The memory report as seven lines.
 use crate::column;
 use crate::named;
 use crate::text;

@@ -1,3 +1,4 @@
+pub mod Blocks
 pub mod Words
 pub mod Apart
 pub mod Counts

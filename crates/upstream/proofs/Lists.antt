@@ -8,11 +8,11 @@ use Rattle.buddy.specs.Runs.{cell}
 use Rattle.buddy.specs.Heap.{Heap}
 use Rattle.buddy.specs.Steps.{take}
 use Rattle.region.specs.State.{State, headIn, freesIn, headTaken, takeHead, ifAt, cut, before, pull, pulls}
-use Rattle.region.specs.Image.{image}
+use Rattle.refine.specs.Image.{image}
 use Rattle.region.specs.declared.HeapMemoryRegion.{HeapMemoryRegion}
 use Rattle.region.specs.declared.lists.Found.{Found}
 use Rattle.region.specs.declared.lists.Found.the-variants.{At, Nothing}
-use Rattle.refine.specs.Fine.{Fits}
+use Rattle.refine.specs.Fit.{Fits}
 use Rattle.refine.proofs.Step.{Lent}
 use Rattle.refine.proofs.Record.{frees-image}
 use Rattle.refine.proofs.Listed.{list-free}

@@ -74,7 +74,7 @@ neighbor-run o c = by-cases (ℕ-discrete (c % 2) 0)
       aligned = mod-head o _ (head-first o (d * 2));
     })
 
--- the bit turned over gives document 01's buddy, and that is such a neighbour
+-- the bit turned over gives our buddy (S11), and that is such a neighbour
 xor-buddy : (o c : ℕ) → (bitXor (first o c) (2 ^ o) ≡ buddyOf o (first o c)) × Neighbor o (first o c) (buddyOf o (first o c))
 xor-buddy o c = rw (buddy-page o c) (xor-run o c, neighbor-run o c)
 

@@ -1,9 +1,10 @@
--- Upstream packs a word by "or": the type's number, and each field masked and shifted up. Of fields that have a word that is the sum which
--- document 01's table says. A word's type comes back whatever its fields, and no next page reads as none. These are results.
+-- Upstream packs a word by "or": the type's number, and each field masked and shifted up. Of fields that have a word that is the sum which our table
+-- says (W2). A word's type comes back whatever its fields, and no next page reads as none. These are results.
 use Rattle.common.specs.Kit.{ℕ, _+_, _-_, _*_, _/_, _%_, _^_, _<_, _≡_, refl, true, arith, ltb-true}
 use lib.Bits.{bitAnd, bitOr, and-mask, or-shifted-r}
 use Rattle.common.proofs.Tests.{and-true}
 use Rattle.words.specs.Word.{maxOrder, noNext, noPage, nextPage, nextField, typeIn, inTable, wordOf}
+use Rattle.words.specs.RawFields.{fieldsOf}
 use Rattle.words.specs.declared.word.PageInfo.{PageInfo}
 use Rattle.words.specs.declared.word.PageInfo.the-variants.{Free, Allocated, Slab, Compound, File, Reserved}
 
@@ -34,14 +35,9 @@ word-or (Compound c) h = let o : c .order < maxOrder = ltb-true _ _ h in field-s
 word-or (File f) h = or-shifted-r (f .«ref_count») 4 4 (omega arith)
 word-or (Reserved r) h = refl
 
--- the type's number, by document 01's table
+-- the type's number (W1)
 abbrev pub typeOf : PageInfo → ℕ
-typeOf (Free f) = 0
-typeOf (Allocated a) = 1
-typeOf (Slab s) = 2
-typeOf (Compound c) = 3
-typeOf (File f) = 4
-typeOf (Reserved r) = 15
+typeOf i = fieldsOf i .kind
 
 -- also of fields that have no word
 pub type-back : (i : PageInfo) → typeIn (wordOf i) ≡ typeOf i

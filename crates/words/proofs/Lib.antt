@@ -4,3 +4,4 @@ pub mod Laws
 pub mod OrderLaws
 pub mod PlaceLaws
 pub mod Cases
+pub mod RawLaws

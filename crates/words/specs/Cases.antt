@@ -1,4 +1,4 @@
--- The cases of document 01 that are marked (P), and the edges of `get_order`, in one table.
+-- The customer's cases of words and orders (W1 to W9) that are to be proved, and the edges of `get_order`, in one table.
 use Rattle.common.specs.Kit.{ℕ, List, [], _∷_}
 use Rattle.words.specs.Word.{decodeOf, encodeOf, noPage}
 use Rattle.words.specs.Order.{orderOf}
@@ -9,7 +9,7 @@ use Rattle.words.specs.declared.word.Decoded.the-variants.{Info}
 use Rattle.words.specs.declared.word.Encoded.{Encoded}
 use Rattle.words.specs.declared.word.Encoded.the-variants.{Word}
 
--- an input with the answer that the document gives
+-- an input with the answer that the customer gives
 pub data Case : Type 0 where
   decodes : ℕ → Decoded → Case
   encodes : PageInfo → Encoded → Case

@@ -1,4 +1,5 @@
 pub mod Word
+pub mod RawFields
 pub mod Order
 pub mod Place
 pub mod Cases

@@ -1,11 +1,11 @@
--- The order of a size in bytes: document 01, rule 1.
+-- The order of a size in bytes (W9).
 use Rattle.common.specs.Kit.{ℕ, zero, suc, _+_, _*_, _^_, _≤_, _<_, cond, leb}
 
 -- the bytes of a block of order o
 abbrev pub blockBytes : ℕ → ℕ
 blockBytes o = 4096 * 2 ^ o
 
--- "least order whose block holds it"
+-- "least order whose block holds it" (W9)
 pub record LeastOrder (size o : ℕ) : Type 0 where
   pub holds : size ≤ blockBytes o
   pub least : (k : ℕ) → k < o → blockBytes k < size

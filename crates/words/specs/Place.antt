@@ -1,4 +1,4 @@
--- The pages of a region and their addresses: `pages` pages of 4,096 bytes from the address `start` on (document 01, refusal 7).
+-- The pages of a region and their addresses: `pages` pages of 4,096 bytes from the address `start` on (W10, W11).
 use Rattle.common.specs.Kit.{ℕ, _+_, _-_, _*_, _/_, _%_, _^_, cond, eqb, leb, ltb}
 use Rattle.words.specs.declared.place.PageAt.{PageAt}
 use Rattle.words.specs.declared.place.PageAt.the-variants.{Start, Within}

@@ -1,4 +1,4 @@
--- The word of a page: document 01, "Page words", its table row by row.
+-- The word of a page: rules W1 to W8 of docs/RULES.md, the table of types row by row.
 use Rattle.common.specs.Kit.{ℕ, _+_, _-_, _*_, _/_, _%_, _^_, Bool, true, cond, _&&_, _||_, eqb, ltb}
 use Rattle.words.specs.declared.word.PageInfo.{PageInfo}
 use Rattle.words.specs.declared.word.PageInfo.the-variants.{Free, Allocated, Slab, Compound, File, Reserved}
@@ -7,11 +7,11 @@ use Rattle.words.specs.declared.word.Decoded.the-variants.{Info}
 use Rattle.words.specs.declared.word.Encoded.{Encoded}
 use Rattle.words.specs.declared.word.Encoded.the-variants.{Word}
 
--- "An order is 0 to 5"
+-- "An order is 0 to 5" (W3)
 abbrev pub maxOrder : ℕ
 maxOrder = 6
 
--- "A next field of 52 ones means none; the record writes none as NO_PAGE, 2^64 - 1. Any other field is that page number"
+-- 52 ones in a next field are none, which is written 2^64 - 1 outside the words; any other field is that page (W5)
 abbrev pub noNext : ℕ
 noNext = 2 ^ 52 - 1
 
@@ -47,11 +47,11 @@ itemIn w = restIn w % 2 ^ 16
 abbrev pub aboveItem : ℕ → ℕ
 aboveItem w = restIn w / 2 ^ 16
 
--- a row of the table: what the word says, if its order is an order and its spare bits are zero, looked at in this order
+-- a row of the table: what the word says, if its order is an order and its spare bits are zero, looked at in this order (W4, W6)
 unfoldable pub row : PageInfo → ℕ → ℕ → Decoded
 row i order spare = cond (ltb order maxOrder) (cond (eqb spare 0) (Info i) Decoded.No) Decoded.No
 
--- what a word says: the rows by type, each with its order and its spare bits, 0 where it has none
+-- what a word says: the rows by type, each with its order and its spare bits, 0 where it has none (W1, W2, W6)
 unfoldable pub decodeOf : ℕ → Decoded
 decodeOf w =
     cond (eqb (typeIn w) 0) (row (Free (record { «next_page» = nextPage (aboveOrder w); order = orderIn w })) (orderIn w) 0)
@@ -80,7 +80,7 @@ wordOf (Compound c) = c .order * 2 ^ 4 + 3
 wordOf (File f) = f .«ref_count» * 2 ^ 4 + 4
 wordOf (Reserved r) = 15
 
--- "Encode takes raw fields and says no exactly when no word has them"
+-- "Encode takes raw fields and says no exactly when no word has them" (W7)
 unfoldable pub encodeOf : PageInfo → Encoded
 encodeOf i = cond (inTable i) (Word (record { 0 = wordOf i })) Encoded.No
 

@@ -1,5 +1,6 @@
-// Page words, page numbers and addresses, and the order of a size (document 01: "Page words" and rule 1).
-// For every crate above that reads or writes a page's word. Below it stands only `ground`, with laws on tests.
+// Page words, page numbers and addresses, and the order of a size (W1 to W11).
+// For every crate above that reads or writes a page's word. Below it stands only `common`.
 pub mod order;
 pub mod place;
+pub mod raw;
 pub mod word;

@@ -165,7 +165,7 @@ fn encode_next(page: usize) -> u64
     }
 }
 
-// Whether a next field can name the page: NO_PAGE it can; 52 ones are taken for that.
+// Whether a next field can name the page. It has 52 bits, and all of them set mean NO_PAGE, so it can name NO_PAGE and every page below that.
 fn has_field(page: usize) -> bool
     ensures { λ r. ⌜ r ≡ hasField page ⌝ }
 {

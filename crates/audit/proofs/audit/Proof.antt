@@ -14,22 +14,17 @@ marks-good-requires c κs = decide-limits _ _ .yes (passed (c .before .numbers-g
 
 returns-2 : tie.Need-returns-2
 returns-2 c =
-    rw (
-      sound-order,
-      passed (c .before .before .before .numbers-good .ensures) (c .before .before .if1 .left),
-      failed (c .before .marks-good .ensures) (c .if2 .taken),
-    )
+    let n = c .before .before in
+    rw (sound-order, passed (n .before .numbers-good .ensures) (n .if1 .left), failed (c .before .marks-good .ensures) (c .if2 .taken))
 
 stocks-good-requires : tie.Need-stocks-good-requires
-stocks-good-requires c κs = decide-limits _ _ .yes (passed (c .before .before .before .numbers-good .ensures) (c .before .before .if1 .left))
+stocks-good-requires c κs = let n = c .before .before in decide-limits _ _ .yes (passed (n .before .numbers-good .ensures) (n .if1 .left))
 
 returns-3 : tie.Need-returns-3
 returns-3 c =
-    rw (
-      sound-order,
-      passed (c .before .before .before .before .numbers-good .ensures) (c .before .before .before .if1 .left),
-      passed (c .before .before .marks-good .ensures) (c .before .if2 .left),
-    )
+    let m = c .before in
+    let n = m .before .before in
+    rw (sound-order, passed (n .before .numbers-good .ensures) (n .if1 .left), passed (m .before .marks-good .ensures) (m .if2 .left))
     (c .stocks-good .ensures)
 
 pub audit-spec : {M : Type 1} → statement M

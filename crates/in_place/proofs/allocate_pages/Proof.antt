@@ -1,7 +1,7 @@
 -- `in_place::allocate_pages` meets its contract, by the walk of every thin function: it calls `heap::requests::allocate_pages`.
-use Rattle.sound_calls.specs.Told as told
+use Rattle.buddy.specs.Request.{forBlock}
+use Rattle.sound_calls.specs.Answer as answer
 use Rattle.sound_calls.proofs.Granted.{the-type as both}
-use Rattle.heap.specs.Promise.{allocatePromise}
 use Rattle.heap.proofs.requests.allocate_pages.Symbol as called
 use Rattle.heap.proofs.requests.allocate_pages.Met as called-thm
 use Rattle.in_place.proofs.Data.{order, grant}
@@ -12,7 +12,7 @@ use Rattle.in_place.proofs.allocate_pages.Statement as stated
 use Rattle.in_place.proofs.allocate_pages.Code as code
 
 abbrev thin : Thin
-thin = heap-thin order grant (both .name) (both .D) (λ d. d .region) (λ d. d .answer) (both .to-one) called.name told.grant allocatePromise
+thin = heap-thin order grant (both .name) (both .D) (λ d. d .region) (λ d. d .answer) (both .to-one) called.name answer.grant forBlock
 
 pub allocate-pages-spec : {M : Type 1} → stated.statement M
 unfolding code.routine

@@ -1,7 +1,7 @@
 -- `in_place::free_page` meets its contract, by the walk of every thin function: it calls `heap::requests::free_page`.
-use Rattle.sound_calls.specs.Told as told
+use Rattle.buddy.specs.Request.{on, toFree}
+use Rattle.sound_calls.specs.Answer as answer
 use Rattle.sound_calls.proofs.Finished.{the-type as both}
-use Rattle.heap.specs.Promise.{freePromise}
 use Rattle.heap.proofs.requests.free_page.Symbol as called
 use Rattle.heap.proofs.requests.free_page.Met as called-thm
 use Rattle.in_place.proofs.Data.{address, done}
@@ -12,7 +12,7 @@ use Rattle.in_place.proofs.free_page.Statement as stated
 use Rattle.in_place.proofs.free_page.Code as code
 
 abbrev thin : Thin
-thin = heap-thin address done (both .name) (both .D) (λ d. d .region) (λ d. d .answer) (both .to-one) called.name told.done (λ h ws a. freePromise h ws (a .0))
+thin = heap-thin address done (both .name) (both .D) (λ d. d .region) (λ d. d .answer) (both .to-one) called.name answer.done (λ a. on toFree (a .0))
 
 pub free-page-spec : {M : Type 1} → stated.statement M
 unfolding code.routine

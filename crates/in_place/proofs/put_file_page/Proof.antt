@@ -1,7 +1,7 @@
 -- `in_place::put_file_page` meets its contract, by the walk of every thin function: it calls `heap::requests::put_file_page`.
-use Rattle.sound_calls.specs.Told as told
+use Rattle.buddy.specs.Request.{on, toPut}
+use Rattle.sound_calls.specs.Answer as answer
 use Rattle.sound_calls.proofs.Counted.{the-type as both}
-use Rattle.heap.specs.Promise.{putPromise}
 use Rattle.heap.proofs.requests.put_file_page.Symbol as called
 use Rattle.heap.proofs.requests.put_file_page.Met as called-thm
 use Rattle.in_place.proofs.Data.{address, count}
@@ -12,7 +12,7 @@ use Rattle.in_place.proofs.put_file_page.Statement as stated
 use Rattle.in_place.proofs.put_file_page.Code as code
 
 abbrev thin : Thin
-thin = heap-thin address count (both .name) (both .D) (λ d. d .region) (λ d. d .answer) (both .to-one) called.name told.count (λ h ws a. putPromise h ws (a .0))
+thin = heap-thin address count (both .name) (both .D) (λ d. d .region) (λ d. d .answer) (both .to-one) called.name answer.count (λ a. on toPut (a .0))
 
 pub put-file-page-spec : {M : Type 1} → stated.statement M
 unfolding code.routine

@@ -1,8 +1,7 @@
 -- `pages::next_free_pfn` meets its contract: what the word says, taken through the two patterns.
 use Rattle.common.specs.Kit.{sym, ap, _∙_, needs}
-use Rattle.words.specs.Word.{noPage}
 use Rattle.pages.specs.Said.{nextIn}
-use Rattle.pages.proofs.Patterns.{through, other}
+use Rattle.pages.proofs.Patterns.{through, not-free}
 use Rattle.pages.proofs.next_free_pfn.Statement.{statement}
 use Rattle.pages.proofs.next_free_pfn.Tie as tie
 
@@ -13,7 +12,7 @@ returns-2 : tie.Need-returns-2
 returns-2 c =
     let i = c .before .before .info .given in
     let read = c .before .before .before .before .read-page-info .ensures in
-    sym (ap nextIn (sym read ∙ i .1) ∙ other (i .0 .0) noPage .free _ (c .match2 .keys2))
+    sym (ap nextIn (sym read ∙ i .1) ∙ not-free (i .0 .0) (c .match2 .keys2) .next)
 
 returns-3 : tie.Need-returns-3
 returns-3 c =

@@ -2,8 +2,8 @@
 use Rattle.common.specs.Kit.{_≡_, sym, ap, _∙_, true, arith, needs, eq-eqb, ne-eqb}
 use denote.Ref.{now}
 use Rattle.pages.specs.Said.{said}
-use Rattle.pages.proofs.Patterns.{through, other}
-use Rattle.region.specs.Pages.{noOrder, freeOrder}
+use Rattle.pages.specs.Meaning.{freeOrder}
+use Rattle.pages.proofs.Patterns.{through, not-free}
 use Rattle.region.specs.State.{st}
 use Rattle.region.specs.Steps.{neighbor, joins, join}
 use Rattle.region.specs.declared.lists.Found.the-variants.{At}
@@ -58,7 +58,7 @@ returns-3 c =
     let i = c .before .before .info .given in
     let told = sym (c .before .before .before .before .read-page-info .ensures) ∙ i .1 in
     kept _ _ _
-    (joins-other _ _ _ _ (found (second (c .before))) (ap freeOrder told ∙ other (i .0 .0) noOrder .free _ (c .match3 .keys2)))
+    (joins-other _ _ _ _ (found (second (c .before))) (ap freeOrder told ∙ not-free (i .0 .0) (c .match3 .keys2) .order))
 
 returns-4 : tie.Need-returns-4
 returns-4 c =

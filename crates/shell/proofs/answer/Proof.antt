@@ -5,23 +5,12 @@ use Rattle.shell.specs.Shell.{answered}
 use Rattle.shell.proofs.answer.Statement.{statement}
 use Rattle.shell.proofs.answer.Tie as tie
 
-returns : tie.Need-returns
-unfolding answered
-returns c = simp (lt-leb _ _ (c .if1 .taken))
-
-returns-2 : tie.Need-returns-2
-unfolding answered
-returns-2 c =
-    let f = c .before .before .before .before in
-    let a = f .before .before .before .before .before in
-    let done = rw (sub-zero, a .before .parse .ensures) at (a .act .ensures) in
-    simp (le-leb _ _ (a .before .before .before .if1 .left), ← done) (rw sub-zero at (f .finish .ensures))
-
 pub answer-spec : {M : Type 1} → statement M
+unfolding answered
 answer-spec =
     tie.close
     (tie.spec
-    returns
+    (λ c. search lt-leb)
     (λ c. search needs)
     (λ c. search needs)
     (λ c. search needs)
@@ -30,4 +19,8 @@ answer-spec =
     (λ c κs. search needs)
     (λ c. search needs)
     (λ c. search needs)
-    returns-2)
+    (λ c.
+    let f = c .before .before .before .before in
+    let a = f .before .before .before .before .before in
+    let done = rw (sub-zero, a .before .parse .ensures) at (a .act .ensures) in
+    simp (le-leb _ _ (a .before .before .before .if1 .left), ← done) (rw sub-zero at (f .finish .ensures))))

@@ -4,4 +4,4 @@ use Rattle.shell.proofs.fresh.Statement.{statement}
 use Rattle.shell.proofs.fresh.Tie as tie
 
 pub fresh-spec : {M : Type 1} → statement M
-fresh-spec = tie.close (tie.spec (λ c κs. search needs) (λ c. rw (c .empty-region .ensures)))
+fresh-spec = tie.close (tie.spec (λ c κs. search needs) (λ c. cc))

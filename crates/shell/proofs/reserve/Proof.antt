@@ -10,33 +10,21 @@ Inv-loop buffer₀ n i₀ buffer i = (i ≤ n) × (i ≤ length buffer₀) × (l
 abbrev μ-loop : tie.MeasureT-loop
 μ-loop buffer₀ n i₀ buffer i = n - i
 
-loop-holds : tie.Need-loop-holds Inv-loop μ-loop
-loop-holds c = (omega arith, omega arith, refl, refl)
-
-returns : tie.Need-returns Inv-loop μ-loop
-returns c = (omega arith, c .before .before .loop .inv .3)
-
-loop-again : tie.Need-loop-again Inv-loop μ-loop
-loop-again c =
-    let l = c .before .before in
-    (omega arith, omega arith, simp length-set (omega arith), rw (l .loop .inv .3) (fill-more (l .loop .i) 15 _ (omega arith)))
-
-returns-2 : tie.Need-returns-2 Inv-loop μ-loop
-returns-2 c = (omega arith, c .before .loop .inv .3)
-
 pub reserve-spec : {M : Type 1} → statement M
 reserve-spec =
     tie.close
     (tie.spec
     Inv-loop
     μ-loop
-    loop-holds
+    (λ c. (omega arith, omega arith, refl, refl))
     (λ c. search needs)
-    returns
-    (λ c. search needs)
-    (λ c. search needs)
+    (λ c. (omega arith, c .before .before .loop .inv .3))
     (λ c. search needs)
     (λ c. search needs)
-    loop-again
     (λ c. search needs)
-    returns-2)
+    (λ c. search needs)
+    (λ c.
+    let l = c .before .before .loop in
+    (omega arith, omega arith, simp length-set (omega arith), rw (l .inv .3) (fill-more (l .i) 15 _ (omega arith))))
+    (λ c. search needs)
+    (λ c. (omega arith, c .before .loop .inv .3)))

@@ -1,5 +1,5 @@
 -- `abi::record::put_six` meets its contract. The loop's invariant: the first `i` of the six are pasted in.
-use Rattle.common.specs.Kit.{_+_, _-_, _≤_, _≡_, refl, _∙_, length, take, drop, length-set, take-all, add-one, arith, needs}
+use Rattle.common.specs.Kit.{_-_, _≤_, _≡_, refl, _∙_, length, take, length-set, take-all, add-one, arith, needs}
 use mathlib.Core.List.{append-assoc}
 use lib.Seq.{paste, paste-zero, paste-suc}
 use Rattle.abi.specs.Record.{withSix}
@@ -13,49 +13,19 @@ Inv-loop numbers₀ from six i₀ numbers i =
 abbrev μ-loop : tie.MeasureT-loop
 μ-loop numbers₀ from six i₀ numbers i = 6 - i
 
-loop-holds : tie.Need-loop-holds Inv-loop μ-loop
-loop-holds c = (omega arith, refl, paste-zero (c .args .numbers .now) (c .args .from) (c .args .t3))
-
-mul-numbers : tie.Need-mul-numbers Inv-loop μ-loop
-mul-numbers c = search needs
-
-array-read-numbers : tie.Need-array-read-numbers Inv-loop μ-loop
-array-read-numbers c = search needs
-
-add-numbers : tie.Need-add-numbers Inv-loop μ-loop
-add-numbers c = search needs
-
-mul-numbers-2 : tie.Need-mul-numbers-2 Inv-loop μ-loop
-mul-numbers-2 c = search needs
-
-slice-write-numbers : tie.Need-slice-write-numbers Inv-loop μ-loop
-slice-write-numbers c = search needs
-
-add-i : tie.Need-add-i Inv-loop μ-loop
-add-i c = search needs
-
-loop-less : tie.Need-loop-less Inv-loop μ-loop
-loop-less c = search needs
-
 loop-again : tie.Need-loop-again Inv-loop μ-loop
 loop-again c =
     let l = c .before .loop in
     let a = c .before .before .args in
-    let long : length (a .t3) ≡ 6 = c .before .before .good .1 .1 .0 .1 .0 .1 in
     let next = paste-suc (a .numbers .now) (a .from) (a .t3) (l .i) 0 (omega arith) (omega arith) in
     (omega arith, length-set (l .numbers) _ _ ∙ l .inv .1, rw (add-one, l .inv .2) next)
-
-same-length : tie.Need-same-length Inv-loop μ-loop
-same-length c = search needs
 
 returns : tie.Need-returns Inv-loop μ-loop
 unfolding withSix
 returns c =
     let a = c .before .before .args in
-    let long : length (a .t3) ≡ 6 = c .before .before .good .1 .1 .0 .1 .0 .1 in
     let done : c .before .loop .i ≡ 6 = omega arith in
-    rw (c .before .loop .inv .2, done, take-all 6 (a .t3) (omega arith))
-    (append-assoc (take (a .from) (a .numbers .now)) (a .t3) (drop (a .from + 6) (a .numbers .now)))
+    rw (c .before .loop .inv .2, done, take-all 6 (a .t3) (omega arith)) (append-assoc (take (a .from) (a .numbers .now)) (a .t3) _)
 
 pub put-six-spec : {M : Type 1} → statement M
 put-six-spec =
@@ -63,14 +33,14 @@ put-six-spec =
     (tie.spec
     Inv-loop
     μ-loop
-    loop-holds
-    mul-numbers
-    array-read-numbers
-    add-numbers
-    mul-numbers-2
-    slice-write-numbers
-    add-i
-    loop-less
+    (λ c. (omega arith, refl, paste-zero (c .args .numbers .now) (c .args .from) (c .args .t3)))
+    (λ c. search needs)
+    (λ c. search needs)
+    (λ c. search needs)
+    (λ c. search needs)
+    (λ c. search needs)
+    (λ c. search needs)
+    (λ c. search needs)
     loop-again
-    same-length
+    (λ c. search needs)
     returns)

@@ -13,30 +13,6 @@ Inv-loop numbers from six₀ i₀ six i =
 abbrev μ-loop : tie.MeasureT-loop
 μ-loop numbers from six₀ i₀ six i = 6 - i
 
-loop-holds : tie.Need-loop-holds Inv-loop μ-loop
-loop-holds c = (omega arith, refl, refl)
-
-add-six : tie.Need-add-six Inv-loop μ-loop
-add-six c = search needs
-
-mul-six : tie.Need-mul-six Inv-loop μ-loop
-mul-six c = search needs
-
-shared-slice-read-six : tie.Need-shared-slice-read-six Inv-loop μ-loop
-shared-slice-read-six c = search needs
-
-mul-six-2 : tie.Need-mul-six-2 Inv-loop μ-loop
-mul-six-2 c = search needs
-
-array-write-six : tie.Need-array-write-six Inv-loop μ-loop
-array-write-six c = search needs
-
-add-i : tie.Need-add-i Inv-loop μ-loop
-add-i c = search needs
-
-loop-less : tie.Need-loop-less Inv-loop μ-loop
-loop-less c = search needs
-
 loop-again : tie.Need-loop-again Inv-loop μ-loop
 loop-again c =
     let l = c .before .before .loop in
@@ -58,13 +34,13 @@ six-spec =
     (tie.spec
     Inv-loop
     μ-loop
-    loop-holds
-    add-six
-    mul-six
-    shared-slice-read-six
-    mul-six-2
-    array-write-six
-    add-i
-    loop-less
+    (λ c. (omega arith, refl, refl))
+    (λ c. search needs)
+    (λ c. search needs)
+    (λ c. search needs)
+    (λ c. search needs)
+    (λ c. search needs)
+    (λ c. search needs)
+    (λ c. search needs)
     loop-again
     returns)

@@ -4,21 +4,12 @@ use Rattle.abi.proofs.Packed.{stored}
 use Rattle.abi.proofs.record.store.Statement.{statement}
 use Rattle.abi.proofs.record.store.Tie as tie
 
-slice-write-numbers-2 : tie.Need-slice-write-numbers-2
-slice-write-numbers-2 c = simp length-set (omega arith)
-
-slice-write-numbers-3 : tie.Need-slice-write-numbers-3
-slice-write-numbers-3 c = simp length-set (omega arith)
-
-same-length : tie.Need-same-length
-same-length c = simp length-set (omega arith)
-
 returns : tie.Need-returns
 returns c =
     let third = c .before .before .before in
     let second = third .before .before .before .before in
     let first = second .before .before .before .before in
-    stored _ _ _ _ _ (first .before .before .before .before .before .before .pre) (omega arith) (omega arith) (omega arith)
+    stored _ _ _ _ _ (omega arith) (omega arith) (omega arith) (omega arith)
     (first .put-six .ensures) (second .put-six2 .ensures) (third .put-six3 .ensures)
 
 pub store-spec : {M : Type 1} → statement M
@@ -29,7 +20,7 @@ store-spec =
     (λ c κs. search needs)
     (λ c κs. search needs)
     (λ c. search needs)
-    slice-write-numbers-2
-    slice-write-numbers-3
-    same-length
+    (λ c. simp length-set (omega arith))
+    (λ c. simp length-set (omega arith))
+    (λ c. simp length-set (omega arith))
     returns)

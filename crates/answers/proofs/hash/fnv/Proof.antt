@@ -10,13 +10,6 @@ Inv-loop words hash₀ i₀ hash i = withWords hash (drop i words) ≡ hashOf wo
 abbrev μ-loop : tie.MeasureT-loop
 μ-loop words hash₀ i₀ hash i = length words - i
 
-loop-again : tie.Need-loop-again Inv-loop μ-loop
-loop-again c =
-    let l = c .before .before .before .loop in
-    let words = c .before .before .before .before .before .args .words .now in
-    let h : l .i < length words = omega arith in
-    simp (c .with-word .ensures, add-one) (rw (drop-cons words (l .i) 0 h) at (l .inv))
-
 pub fnv-spec : {M : Type 1} → statement M
 unfolding hashOf
 fnv-spec =
@@ -30,7 +23,11 @@ fnv-spec =
     (λ c κs. search needs)
     (λ c. search needs)
     (λ c. search needs)
-    loop-again
+    (λ c.
+    let l = c .before .before .before in
+    let words = l .before .before .args .words .now in
+    let h : l .loop .i < length words = omega arith in
+    simp (c .with-word .ensures, add-one) (rw (drop-cons words (l .loop .i) 0 h) at (l .loop .inv)))
     (λ c.
     let l = c .before .loop in
     rw (drop-of-length-le (c .before .before .before .args .words .now) {i = l .i} (omega arith)) at (l .inv)))

@@ -10,14 +10,8 @@ Inv-loop before word hash₀ rest₀ i₀ hash rest i = withBytes (8 - i) hash r
 abbrev μ-loop : tie.MeasureT-loop
 μ-loop before word hash₀ rest₀ i₀ hash rest i = 8 - i
 
-loop-again : tie.Need-loop-again Inv-loop μ-loop
-unfolding withByte
-loop-again c =
-    let l = c .before .before .loop in
-    let k : 8 - l .i ≡ suc (8 - (l .i + 1)) = omega arith in
-    rw (c .times-prime .ensures) (rw k at (l .inv))
-
 pub with-word-spec : {M : Type 1} → statement M
+unfolding withByte
 with-word-spec =
     tie.close
     (tie.spec
@@ -27,5 +21,8 @@ with-word-spec =
     (λ c κs. search needs)
     (λ c. search needs)
     (λ c. search needs)
-    loop-again
+    (λ c.
+    let l = c .before .before .loop in
+    let k : 8 - l .i ≡ suc (8 - (l .i + 1)) = omega arith in
+    rw (c .times-prime .ensures) (rw k at (l .inv)))
     (λ c. let k : 8 - c .before .loop .i ≡ 0 = omega arith in rw k at (c .before .loop .inv)))

@@ -4,8 +4,4 @@ use Rattle.answers.proofs.lines.page_number.Statement.{statement}
 use Rattle.answers.proofs.lines.page_number.Tie as tie
 
 pub page-number-spec : {M : Type 1} → statement M
-page-number-spec =
-    tie.close
-    (tie.spec
-    (λ c. simp (eq-eqb _ _ (c .if1 .taken)))
-    (λ c. simp (ne-eqb _ _ (c .if1 .left))))
+page-number-spec = tie.close (tie.spec (λ c. search eq-eqb) (λ c. search ne-eqb))

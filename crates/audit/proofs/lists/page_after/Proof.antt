@@ -1,5 +1,6 @@
 -- `audit::lists::page_after` meets its contract: the test picks the case.
 use Rattle.common.specs.Kit.{sym, _∙_, arith, needs}
+use Rattle.buddy.proofs.Spans.{T-span}
 use Rattle.audit.specs.Survey.{pageAfter}
 use Rattle.audit.proofs.Listing.{decide-free}
 use Rattle.audit.proofs.lists.page_after.Statement.{statement}
@@ -7,7 +8,7 @@ use Rattle.audit.proofs.lists.page_after.Tie as tie
 
 next-free-pfn-requires : tie.Need-next-free-pfn-requires
 next-free-pfn-requires c κs =
-    omega (arith, decide-free _ _ _ _ _ .yes (sym (c .before .is-free .ensures) ∙ c .if1 .taken) .below, c .before .before .before .pre)
+    omega (arith, T-span _ _ _ (decide-free _ _ _ _ .yes (sym (c .before .is-free .ensures) ∙ c .if1 .taken) .managed), c .before .before .before .pre)
 
 returns : tie.Need-returns
 unfolding pageAfter

@@ -12,23 +12,8 @@ Inv-loop words from end word others₀ pfn₀ others pfn =
 abbrev μ-loop : tie.MeasureT-loop
 μ-loop words from end word others₀ pfn₀ others pfn = end - pfn
 
-to-mem-requires : tie.Need-to-mem-requires Inv-loop μ-loop
-to-mem-requires c κs = search needs
-
 loop-holds : tie.Need-loop-holds Inv-loop μ-loop
 loop-holds c = record { left = refl }
-
-mul-others : tie.Need-mul-others Inv-loop μ-loop
-mul-others c = search needs
-
-shared-slice-read-others : tie.Need-shared-slice-read-others Inv-loop μ-loop
-shared-slice-read-others c = search needs
-
-add-pfn : tie.Need-add-pfn Inv-loop μ-loop
-add-pfn c = search needs
-
-loop-less : tie.Need-loop-less Inv-loop μ-loop
-loop-less c = search needs
 
 loop-again : tie.Need-loop-again Inv-loop μ-loop
 loop-again c = gather-next (c .before .before .loop .inv) (c .before .loop-test .taken)
@@ -43,11 +28,11 @@ all-say-spec =
     (tie.spec
     Inv-loop
     μ-loop
-    to-mem-requires
+    (λ c κs. search needs)
     loop-holds
-    mul-others
-    shared-slice-read-others
-    add-pfn
-    loop-less
+    (λ c. search needs)
+    (λ c. search needs)
+    (λ c. search needs)
+    (λ c. search needs)
     loop-again
     returns)

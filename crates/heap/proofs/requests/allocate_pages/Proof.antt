@@ -1,30 +1,33 @@
--- `heap::requests::allocate_pages` meets its contract: the audit's answer picks the case of `allocatePromise`.
-use Rattle.common.specs.Kit.{sym, _∙_, needs}
-use Rattle.heap.specs.Promise.{allocatePromise}
-use Rattle.heap.proofs.Audited.{passed}
+-- `heap::requests::allocate_pages` meets its contract: the audit's answer picks the case of `promise`.
+use Rattle.common.specs.Kit.{needs}
+use Rattle.heap.specs.Promise.{promise}
+use Rattle.heap.proofs.Audited.{passed, audit-passes, audit-refuses}
 use Rattle.heap.proofs.requests.allocate_pages.Statement.{statement}
 use Rattle.heap.proofs.requests.allocate_pages.Tie as tie
 
 allocate-pages-requires : tie.Need-allocate-pages-requires
-allocate-pages-requires c κs = passed _ _ (c .before .before .audit .ensures) (c .before .if1 .taken)
+allocate-pages-requires c κs = passed _ _ _ (c .before .before .before .audit .ensures) (c .before .enum-told .given .1)
 
 returns : tie.Need-returns
-unfolding allocatePromise
-returns c = simp (sym (c .before .before .before .before .before .audit .ensures) ∙ c .before .before .before .before .if1 .taken) (c .before .before .allocate-pages .ensures)
+unfolding promise
+returns c =
+    let sound = c .before .before .before .before in
+    simp (audit-passes _ _ _ (sound .before .before .audit .ensures) (sound .enum-told .given .1)) (c .before .before .allocate-pages .ensures)
 
 returns-2 : tie.Need-returns-2
-unfolding allocatePromise
+unfolding promise
 returns-2 c =
-    let r = c .damaged-grant .ensures in
-    simp (r .0, r .1, sym (c .before .before .audit .ensures) ∙ c .before .if1 .left)
+    let refused = audit-refuses _ _ _ (c .before .before .before .audit .ensures) (c .before .why .given .1) in
+    simp (refused .0, refused .1)
 
 pub allocate-pages-spec : {M : Type 1} → statement M
 allocate-pages-spec =
     tie.close
     (tie.spec
     (λ c κs. search needs)
+    (λ c. search needs)
+    (λ c. search needs)
     allocate-pages-requires
-    (λ c κs. search needs)
     (λ c. search needs)
     returns
     (λ c. search needs)

@@ -1,22 +1,34 @@
--- `heap::requests::free_page` meets its contract: the audit's answer picks the case of `freePromise`.
-use Rattle.common.specs.Kit.{sym, _∙_, needs}
-use Rattle.heap.specs.Promise.{freePromise}
-use Rattle.heap.proofs.Audited.{passed}
+-- `heap::requests::free_page` meets its contract: the audit's answer picks the case of `promise`.
+use Rattle.common.specs.Kit.{needs}
+use Rattle.heap.specs.Promise.{promise}
+use Rattle.heap.proofs.Audited.{passed, audit-passes, audit-refuses}
 use Rattle.heap.proofs.requests.free_page.Statement.{statement}
 use Rattle.heap.proofs.requests.free_page.Tie as tie
 
 free-page-requires : tie.Need-free-page-requires
-free-page-requires c κs = passed _ _ (c .before .before .audit .ensures) (c .before .if1 .taken)
+free-page-requires c κs = passed _ _ _ (c .before .before .before .audit .ensures) (c .before .enum-told .given .1)
 
 returns : tie.Need-returns
-unfolding freePromise
-returns c = simp (sym (c .before .before .before .before .before .audit .ensures) ∙ c .before .before .before .before .if1 .taken) (c .before .before .free-page .ensures)
+unfolding promise
+returns c =
+    let sound = c .before .before .before .before in
+    simp (audit-passes _ _ _ (sound .before .before .audit .ensures) (sound .enum-told .given .1)) (c .before .before .free-page .ensures)
 
 returns-2 : tie.Need-returns-2
-unfolding freePromise
-returns-2 c = simp (sym (c .before .audit .ensures) ∙ c .if1 .left)
+unfolding promise
+returns-2 c =
+    let refused = audit-refuses _ _ _ (c .before .before .before .audit .ensures) (c .before .why .given .1) in
+    simp (refused .0, refused .1)
 
 pub free-page-spec : {M : Type 1} → statement M
 free-page-spec =
     tie.close
-    (tie.spec (λ c κs. search needs) free-page-requires (λ c. search needs) returns (λ c. search needs) returns-2)
+    (tie.spec
+    (λ c κs. search needs)
+    (λ c. search needs)
+    (λ c. search needs)
+    free-page-requires
+    (λ c. search needs)
+    returns
+    (λ c. search needs)
+    returns-2)

@@ -1,6 +1,6 @@
 -- `heap::start::root_mem_init` meets its contract, by the laws `sets-code` and `refuses-code`.
 use Rattle.common.specs.Kit.{sym, ap, _∙_, [], needs}
-use Rattle.sound_calls.specs.Told.{ok, done}
+use Rattle.sound_calls.specs.Answer.{ok, done}
 use Rattle.sound_calls.specs.Code.{leaves}
 use Rattle.heap.proofs.SetUps.{set-up-limits, sets-code, refuses-code}
 use Rattle.heap.proofs.start.root_mem_init.Statement.{statement}

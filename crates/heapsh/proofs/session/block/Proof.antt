@@ -1,9 +1,6 @@
 -- `heapsh::session::block` meets its contract. The loop's invariant: a line starts at `at` and ends at `end`, within the text, and the buffers
 -- keep their lengths. The measure is what is left of the text.
-use Prim.Native.Nat.{_≤_, _-_}
-use mathlib.Core.Path.{_≡_}
-use lib.ListN.{length}
-use borrow.Author.Needs.{needs}
+use Rattle.common.specs.Kit.{_-_, _≤_, _≡_, length, needs}
 use Rattle.heapsh.proofs.session.block.Statement.{statement}
 use Rattle.heapsh.proofs.session.block.Tie as tie
 

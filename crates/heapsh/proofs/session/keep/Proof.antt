@@ -1,8 +1,5 @@
 -- `heapsh::session::keep` ends and is safe. The loop's invariant: the buffer keeps its length.
-use Prim.Native.Nat.{_-_}
-use mathlib.Core.Path.{_≡_}
-use lib.ListN.{length}
-use borrow.Author.Needs.{needs}
+use Rattle.common.specs.Kit.{_-_, _≡_, length, needs}
 use Rattle.heapsh.proofs.session.keep.Statement.{statement}
 use Rattle.heapsh.proofs.session.keep.Tie as tie
 

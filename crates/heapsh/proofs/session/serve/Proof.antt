@@ -1,7 +1,5 @@
 -- `heapsh::session::serve` ends and is safe. The loop's invariant: the buffers keep their lengths.
-use mathlib.Core.Path.{_≡_}
-use lib.ListN.{length}
-use borrow.Author.Needs.{needs}
+use Rattle.common.specs.Kit.{_≡_, length, needs}
 use Rattle.heapsh.proofs.session.serve.Statement.{statement}
 use Rattle.heapsh.proofs.session.serve.Tie as tie
 

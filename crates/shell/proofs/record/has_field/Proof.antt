@@ -13,24 +13,18 @@ orders = Name.nr ∷ Name.free ∷ Name.head ∷ []
 abbrev others : List ℕ
 others = Name.boot ∷ Name.pages ∷ Name.start ∷ []
 
-returns : tie.Need-returns
+pub has-field-spec : {M : Type 1} → statement M
 unfolding hasField
-returns c =
+has-field-spec =
+    tie.close
+    (tie.spec
+    (λ c.
     let i = c .before .args .i in
-    one-of (λ n. ltb i 6 ≡ hasField n i) orders _ (c .match .keys1) (refl, (refl, (refl, tt)))
-
-returns-2 : tie.Need-returns-2
-unfolding hasField
-returns-2 c =
+    one-of (λ n. ltb i 6 ≡ hasField n i) orders _ (c .match .keys1) (refl, (refl, (refl, tt))))
+    (λ c.
     let i = c .before .args .i in
-    one-of (λ n. eqb i 0 ≡ hasField n i) others _ (c .match .keys2) (refl, (refl, (refl, tt)))
-
-returns-3 : tie.Need-returns-3
-unfolding hasField
-returns-3 c =
+    one-of (λ n. eqb i 0 ≡ hasField n i) others _ (c .match .keys2) (refl, (refl, (refl, tt))))
+    (λ c.
     let (nr, (free, (head, _))) = none-of orders _ (c .match .rest .0 .1) in
     let (boot, (pages, (start, _))) = none-of others _ (c .match .rest .1) in
-    simp (nr, free, head, start, pages, boot)
-
-pub has-field-spec : {M : Type 1} → statement M
-has-field-spec = tie.close (tie.spec returns returns-2 returns-3)
+    simp (nr, free, head, start, pages, boot)))

@@ -33,6 +33,4 @@ act-spec =
     simp (h .before .before .match .keys3, c .said .ensures) (h .with-two .ensures _))
     (λ c. search needs)
     (λ c. simp (c .before .before .before .before .match .keys4) (c .before .before .with-three .ensures))
-    (λ c.
-    let r = c .before .before .match .rest in
-    simp (c .said2 .ensures, c .before .bad .ensures, ne-eqb _ _ (r .0 .0 .0 .1), ne-eqb _ _ (r .0 .0 .1), ne-eqb _ _ (r .0 .1), ne-eqb _ _ (r .1))))
+    (λ c. simp (c .said2 .ensures, c .before .bad .ensures) (search ne-eqb)))

@@ -12,5 +12,5 @@ lend-spec =
     (λ c κs. search needs)
     (λ c κs. search needs)
     (λ c κs. search needs)
-    (λ c ws. simp (c .empty-region .ensures, le-leb _ _ (c .before .if1 .taken)))
-    (λ c ws. simp (c .said .ensures, c .before .bad .ensures, lt-leb _ _ (c .before .before .if1 .left))))
+    (λ c ws. simp (c .empty-region .ensures) (search le-leb))
+    (λ c ws. simp (c .said .ensures, c .before .bad .ensures) (search lt-leb)))

@@ -14,5 +14,5 @@ poke-spec =
     (λ c κs. search needs)
     (λ c κs. search needs)
     (λ c. search needs)
-    (λ c r. simp (c .bare .ensures, lt-ltb _ _ (c .before .if1 .taken)))
-    (λ c r. simp (c .bare2 .ensures, le-ltb _ _ (c .before .if1 .left))))
+    (λ c r. simp (c .bare .ensures) (search lt-ltb))
+    (λ c r. simp (c .bare2 .ensures) (search le-ltb)))

@@ -17,10 +17,11 @@ read-with-spec =
     (λ c κs. search needs)
     (λ c κs. search needs)
     (λ c κs. search needs)
-    (λ c. simp (c .before .before .match .keys1, c .of-layout .ensures, c .before .layout-from-ptr .ensures))
+    (λ c κs. search needs)
+    (λ c.
+    let call = c .before .before in
+    simp (call .before .match .keys1, c .of-answer .ensures, c .before .of-layout .ensures, call .layout-from-ptr .ensures))
     (λ c. simp (c .before .match .keys2) (c .word-at .ensures (c .before .before .before .args .region)))
     (λ c. simp (c .before .before .match .keys3, c .of-decoded .ensures, c .before .decode .ensures))
     (λ c. simp (c .before .before .match .keys4, c .number .ensures, c .before .get-order .ensures))
-    (λ c.
-    let r = c .before .match .rest in
-    simp (c .bad .ensures, ne-eqb _ _ (r .0 .0 .0 .1), ne-eqb _ _ (r .0 .0 .1), ne-eqb _ _ (r .0 .1), ne-eqb _ _ (r .1))))
+    (λ c. simp (c .bad .ensures) (search ne-eqb)))

@@ -23,37 +23,30 @@ with-number-spec =
     (λ c κs. search needs)
     (λ c κs. search needs)
     (λ c κs. search needs)
+    (λ c κs. search needs)
+    (λ c κs. search needs)
+    (λ c κs. search needs)
+    (λ c κs. search needs)
     (λ c. search needs)
     (λ c.
-    let h = c .before .before .before in
-    simp (h .before .before .match .keys1, c .granted .ensures, ← h .allocate-pages .ensures))
+    let call = c .before .before .before .before .before in
+    simp (call .before .before .match .keys1, c .told .ensures, c .before .of-grant .ensures, ← call .allocate-pages .ensures))
     (λ c. search needs)
     (λ c.
-    let h = c .before .before .before in
-    simp (h .before .before .match .keys2, c .granted2 .ensures, ← h .allocate-slab-page .ensures))
+    let call = c .before .before .before .before .before in
+    simp (call .before .before .match .keys2, c .told2 .ensures, c .before .of-grant2 .ensures, ← call .allocate-slab-page .ensures))
     (λ c. search needs)
     (λ c.
-    let h = c .before .before .before in
-    simp (h .before .before .match .keys3, c .finished .ensures, ← h .free-page .ensures))
+    let call = c .before .before .before .before .before in
+    simp (call .before .before .match .keys3, c .told3 .ensures, c .before .of-done .ensures, ← call .free-page .ensures))
     (λ c. search needs)
     (λ c.
-    let h = c .before .before .before .before in
-    simp (h .before .before .match .keys4, c .said .ensures, c .before .of-count .ensures, ← h .get-file-page .ensures))
+    let call = c .before .before .before .before in
+    simp (call .before .before .match .keys4, c .told4 .ensures, c .before .of-count .ensures, ← call .get-file-page .ensures))
     (λ c. search needs)
     (λ c.
-    let h = c .before .before .before in
-    simp (h .before .before .match .keys5, c .counted .ensures, ← h .put-file-page .ensures))
+    let call = c .before .before .before .before .before in
+    simp (call .before .before .match .keys5, c .told5 .ensures, c .before .of-count2 .ensures, ← call .put-file-page .ensures))
     (λ c. simp (c .before .match .keys6) (c .lend .ensures _))
     (λ c. search needs)
-    (λ c.
-    let r = c .before .before .before .match .rest in
-    simp (
-      c .said2 .ensures,
-      c .before .read-with .ensures,
-      ne-eqb _ _ (r .0 .0 .0 .0 .0 .1),
-      ne-eqb _ _ (r .0 .0 .0 .0 .1),
-      ne-eqb _ _ (r .0 .0 .0 .1),
-      ne-eqb _ _ (r .0 .0 .1),
-      ne-eqb _ _ (r .0 .1),
-      ne-eqb _ _ (r .1),
-    )))
+    (λ c. simp (c .said .ensures, c .before .read-with .ensures) (search ne-eqb)))

@@ -17,12 +17,13 @@ with-three-spec =
     (λ c κs. search needs)
     (λ c κs. search needs)
     (λ c κs. search needs)
+    (λ c κs. search needs)
     (λ c. search needs)
     (λ c.
-    let h = c .before .before .before in
-    simp (h .before .before .match .keys1, c .finished .ensures, ← h .root-mem-init .ensures))
+    let call = c .before .before .before .before .before in
+    simp (call .before .before .match .keys1, c .told .ensures, c .before .of-done .ensures, ← call .root-mem-init .ensures))
     (λ c. simp (c .before .match .keys2) (c .field .ensures _))
-    (λ c. simp (c .before .before .before .match .keys3, c .said .ensures, c .before .of-encoded .ensures, c .before .before .encode-fields .ensures))
     (λ c.
-    let r = c .before .before .match .rest in
-    simp (c .said2 .ensures, c .before .bad .ensures, ne-eqb _ _ (r .0 .0 .1), ne-eqb _ _ (r .0 .1), ne-eqb _ _ (r .1))))
+    let call = c .before .before in
+    simp (call .before .match .keys3, c .said .ensures, c .before .of-encoded .ensures, call .encode-fields .ensures))
+    (λ c. simp (c .said2 .ensures, c .before .bad .ensures) (search ne-eqb)))

@@ -13,4 +13,4 @@ with-two-spec =
     (λ c κs. search needs)
     (λ c. search needs)
     (λ c r. simp (c .before .before .before .before .match .keys1) (c .before .before .poke .ensures r))
-    (λ c r. simp (c .bad .ensures, ne-eqb _ _ (c .before .match .rest .1))))
+    (λ c r. simp (c .bad .ensures) (search ne-eqb)))

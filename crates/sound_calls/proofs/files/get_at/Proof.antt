@@ -1,6 +1,6 @@
 -- `sound_calls::files::get_at` meets its contract: what the word says and its count pick the case.
 use Rattle.common.specs.Kit.{refl, sym, _∙_, needs, le-leb, lt-leb}
-use Rattle.pages.proofs.Patterns.{through, other}
+use Rattle.pages.proofs.Patterns.{through, not-file}
 use Rattle.sound_calls.specs.Files.{gotCount, gotWords}
 use Rattle.sound_calls.proofs.files.get_at.Statement.{statement}
 use Rattle.sound_calls.proofs.files.get_at.Tie as tie
@@ -14,7 +14,7 @@ unfolding gotCount gotWords
 returns-2 c =
     let i = c .before .before .info .given in
     simp (sym (c .before .before .before .before .read-page-info .ensures) ∙ i .1)
-    (sym (other (i .0 .0) _ .file _ (c .match2 .keys2)), sym (other (i .0 .0) _ .file _ (c .match2 .keys2)))
+    (sym (not-file (i .0 .0) _ _ (c .match2 .keys2)), sym (not-file (i .0 .0) _ _ (c .match2 .keys2)))
 
 returns-3 : tie.Need-returns-3
 unfolding gotCount gotWords

@@ -1,12 +1,12 @@
 -- `sound_calls::files::put_at` meets its contract: what the word says and its count pick the case.
-use Rattle.common.specs.Kit.{_-_, _≡_, refl, sym, ap, _∙_, arith, needs, le-leb, lt-leb}
+use Rattle.common.specs.Kit.{[], _∷_, _-_, _≡_, refl, sym, ap, _∙_, arith, needs, le-leb, lt-leb}
 use denote.Ref.{now}
 use Rattle.words.specs.declared.word.PageInfo.the-variants.{File}
 use Rattle.words.specs.declared.word.Decoded.the-variants.{Info}
 use Rattle.pages.specs.Said.{said}
-use Rattle.pages.proofs.Patterns.{through, other}
+use Rattle.pages.proofs.Patterns.{through, not-file}
 use Rattle.sound_calls.specs.Files.{putCount, putState}
-use Rattle.sound_calls.specs.declared.Count.the-variants.{Is}
+use Rattle.sound_calls.specs.Answer.{ok}
 use Rattle.sound_calls.proofs.files.put_at.Statement.{statement}
 use Rattle.sound_calls.proofs.files.put_at.Tie as tie
 
@@ -28,7 +28,7 @@ unfolding putCount putState
 returns-2 c =
     let i = c .before .before .info .given in
     simp (sym (c .before .before .before .before .read-page-info .ensures) ∙ i .1)
-    (record { answers = sym (other (i .0 .0) _ .file _ (c .match2 .keys2)); leaves = sym (other (i .0 .0) _ .file _ (c .match2 .keys2)) })
+    (record { answers = sym (not-file (i .0 .0) _ _ (c .match2 .keys2)); leaves = sym (not-file (i .0 .0) _ _ (c .match2 .keys2)) })
 
 free-page-order-requires : tie.Need-free-page-order-requires
 free-page-order-requires c κs =
@@ -41,7 +41,7 @@ returns-3 c =
     let last = c .before .before .before .before in
     let none : 0 ≡ last .before .before .info2 .given .0 .0 .«ref_count» - 1 = omega (arith, last .if1 .taken) in
     simp (file (last .before), le-leb _ _ (last .if1 .taken))
-    (record { answers = ap Is none; leaves = c .before .before .free-page-order .ensures })
+    (record { answers = ap (λ n. ok (n ∷ [])) none; leaves = c .before .before .free-page-order .ensures })
 
 returns-4 : tie.Need-returns-4
 unfolding putCount putState

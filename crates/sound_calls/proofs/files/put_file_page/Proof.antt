@@ -2,10 +2,9 @@
 use Rattle.common.specs.Kit.{_≡_, sym, _∙_, needs}
 use denote.Ref.{now}
 use Rattle.words.specs.declared.place.PageAt.the-variants.{Start}
-use Rattle.sound_calls.specs.Told.{count}
-use Rattle.sound_calls.specs.Promise.{atPage, soundPut}
+use Rattle.sound_calls.specs.Promise.{atPage, does}
 use Rattle.sound_calls.specs.Code.{leaves}
-use Rattle.sound_calls.proofs.Good.{Good}
+use Rattle.sound_calls.proofs.SoundInput.{SoundInput}
 use Rattle.sound_calls.proofs.Typing.{good}
 use Rattle.sound_calls.proofs.Patterns.{no-start}
 use Rattle.sound_calls.proofs.Places.{place, start-in}
@@ -13,8 +12,8 @@ use Rattle.sound_calls.proofs.FileLaws.{put-ok, put-code}
 use Rattle.sound_calls.proofs.files.put_file_page.Statement.{statement}
 use Rattle.sound_calls.proofs.files.put_file_page.Tie as tie
 
--- the code's types make what it calls sound good
-state : (c : tie.After-slice-known) → Good (c .before .args .region) (now (c .before .args .words))
+-- the code's types make what it calls sound input
+state : (c : tie.After-slice-known) → SoundInput (c .before .args .region) (now (c .before .args .words))
 state c = good _ _ _ (c .before .good .0) (c .slice-known .given) (c .before .pre)
 
 -- past the pattern the address starts a page
@@ -23,7 +22,7 @@ found : (c : tie.After-known-told) → let start = c .before .before .before .be
 found c = sym (c .before .before .before .get-pfn .ensures) ∙ c .before .place .given .1
 
 returns : tie.Need-returns
-unfolding soundPut
+unfolding does
 returns c = rw (← c .before .get-pfn .ensures) (sym (no-start _ _ _ _ _ (c .match .keys2)))
 
 put-at-requires : tie.Need-put-at-requires
@@ -37,7 +36,7 @@ returns-2 c =
     let seen = c .before .before .before .before in
     let start = seen .before .before .before .before .before in
     let got = c .before .before .put-at .ensures in
-    (λ i. leaves (count (got .answers i)) (got .leaves i)) ∙ (rw (found seen) at (put-code (state start) (start .before .args .vaddr)))
+    (λ i. leaves (got .answers i) (got .leaves i)) ∙ (rw (found seen) at (put-code (state start) (start .before .args .vaddr .0)))
 
 pub put-file-page-spec : {M : Type 1} → statement M
 put-file-page-spec =

@@ -1,6 +1,6 @@
 -- `sound_calls::grants::allocate_info` meets its contract: the page that is granted picks the case of `codeGrants`.
 use Rattle.common.specs.Kit.{sym, ap, _∙_, [], needs}
-use Rattle.sound_calls.specs.Told.{no, grant}
+use Rattle.sound_calls.specs.Answer.{no, grant}
 use Rattle.sound_calls.specs.Code.{leaves, codeGrants}
 use Rattle.sound_calls.proofs.grants.allocate_info.Statement.{statement}
 use Rattle.sound_calls.proofs.grants.allocate_info.Tie as tie

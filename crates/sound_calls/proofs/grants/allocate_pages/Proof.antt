@@ -1,19 +1,19 @@
 -- `sound_calls::grants::allocate_pages` meets its contract, by the law `allocate-code`.
 use Rattle.common.specs.Kit.{_∙_, needs, le-ltb}
 use denote.Ref.{now}
-use Rattle.sound_calls.specs.Promise.{soundAllocate}
-use Rattle.sound_calls.proofs.Good.{Good}
+use Rattle.sound_calls.specs.Promise.{does}
+use Rattle.sound_calls.proofs.SoundInput.{SoundInput}
 use Rattle.sound_calls.proofs.Typing.{good}
 use Rattle.sound_calls.proofs.GrantLaws.{grant-ok, allocate-code}
 use Rattle.sound_calls.proofs.grants.allocate_pages.Statement.{statement}
 use Rattle.sound_calls.proofs.grants.allocate_pages.Tie as tie
 
--- the code's types make what it calls sound good
-state : (c : tie.After-slice-known) → Good (c .before .args .region) (now (c .before .args .words))
+-- the code's types make what it calls sound input
+state : (c : tie.After-slice-known) → SoundInput (c .before .args .region) (now (c .before .args .words))
 state c = good _ _ _ (c .before .good .0) (c .slice-known .given) (c .before .pre)
 
 returns : tie.Need-returns
-unfolding soundAllocate
+unfolding does
 returns c = simp (le-ltb _ _ (c .if1 .taken))
 
 allocate-info-requires : tie.Need-allocate-info-requires

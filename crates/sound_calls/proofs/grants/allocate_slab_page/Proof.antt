@@ -1,19 +1,19 @@
 -- `sound_calls::grants::allocate_slab_page` meets its contract, by the laws `slab-code` and `slab-bad`.
-use Rattle.common.specs.Kit.{_≡_, sym, _∙_, false, _&&_, leb, arith, needs}
+use Rattle.common.specs.Kit.{_≡_, sym, _∙_, false, arith, needs}
 use denote.Ref.{now}
-use Rattle.region.specs.Pages.{goodItem}
-use Rattle.sound_calls.proofs.Good.{Good}
+use Rattle.buddy.specs.Heap.{goodItem}
+use Rattle.sound_calls.proofs.SoundInput.{SoundInput}
 use Rattle.sound_calls.proofs.Typing.{good}
 use Rattle.sound_calls.proofs.GrantLaws.{grant-ok, slab-code, slab-bad}
 use Rattle.sound_calls.proofs.grants.allocate_slab_page.Statement.{statement}
 use Rattle.sound_calls.proofs.grants.allocate_slab_page.Tie as tie
 
--- the code's types make what it calls sound good
-state : (c : tie.After-slice-known) → Good (c .before .args .region) (now (c .before .args .words))
+-- the code's types make what it calls sound input
+state : (c : tie.After-slice-known) → SoundInput (c .before .args .region) (now (c .before .args .words))
 state c = good _ _ _ (c .before .good .0) (c .slice-known .given) (c .before .pre)
 
 -- past the first test the item is bad
-bad : (c : tie.Else1) → let i = c .before .before .before .args .item-size in (goodItem i && leb i 65535) ≡ false
+bad : (c : tie.Else1) → let i = c .before .before .before .args .item-size in goodItem i ≡ false
 bad c = sym (c .before .good-item .ensures) ∙ c .if1 .left
 
 allocate-info-requires : tie.Need-allocate-info-requires

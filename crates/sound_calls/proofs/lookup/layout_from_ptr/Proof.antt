@@ -1,16 +1,16 @@
 -- `sound_calls::lookup::layout_from_ptr` meets its contract: the place that `get_pfn` answers picks the case.
 use Rattle.common.specs.Kit.{sym, _∙_, ⊎-elim, arith, needs}
 use denote.Ref.{now}
-use Rattle.sound_calls.specs.Promise.{lookedUp, soundLookup}
-use Rattle.sound_calls.proofs.Good.{Good}
+use Rattle.sound_calls.specs.Promise.{lookedUp, looksUp}
+use Rattle.sound_calls.proofs.SoundInput.{SoundInput}
 use Rattle.sound_calls.proofs.Typing.{good}
 use Rattle.sound_calls.proofs.Places.{Names, start-names, within-names}
 use Rattle.sound_calls.proofs.Heads.{said-ok}
 use Rattle.sound_calls.proofs.lookup.layout_from_ptr.Statement.{statement}
 use Rattle.sound_calls.proofs.lookup.layout_from_ptr.Tie as tie
 
--- the code's types make what it calls sound good
-state : (c : tie.After-shared-slice-known) → Good (c .before .args .region) (now (c .before .args .words))
+-- the code's types make what it calls sound input
+state : (c : tie.After-shared-slice-known) → SoundInput (c .before .args .region) (now (c .before .args .words))
 state c = good _ _ _ (c .before .good .0) (c .shared-slice-known .given) (c .before .pre)
 
 -- where the arms meet, the page is the one that the address names
@@ -21,7 +21,7 @@ names c =
     ⊎-elim (λ w. rw (w .3) (start-names _ _ _ _ (at ∙ w .1 .given .1))) (λ w. rw (w .3) (within-names _ _ _ _ (at ∙ w .1 .given .1))) (c .match .came)
 
 returns : tie.Need-returns
-unfolding soundLookup lookedUp
+unfolding looksUp lookedUp
 returns c = simp (sym (c .before .before .get-pfn .ensures) ∙ c .enum-told .given .1)
 
 read-page-info-requires : tie.Need-read-page-info-requires
