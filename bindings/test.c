@@ -111,6 +111,16 @@ static void layouts(void)
     CHECK(offsetof(struct tingmudra_fields, next) == 24);
 }
 
+/* The boundary's own numbers, which no refusal of the heap's will have. */
+static void own_numbers(void)
+{
+    CHECK(tingmudra_empty_region(NULL, 0).number == UINT64_C(0x40000000));
+    CHECK(tm_empty(NULL).number == UINT64_C(0x40000000));
+    CHECK(tm_decode(0x63).number == UINT64_C(0x40000001));
+    CHECK(tm_encode(TINGMUDRA_ALLOCATED, 6, 0).number == UINT64_C(0x40000001));
+    CHECK(TINGMUDRA_BAD_BUFFER == 0x40000000 && TINGMUDRA_NO == 0x40000001);
+}
+
 static int word_is(uint64_t kind, uint64_t field, uint64_t next, uint64_t word)
 {
     struct tingmudra_fields said = tm_decode(word);
@@ -414,6 +424,7 @@ static void other_regions(void)
 int main(void)
 {
     layouts();
+    own_numbers();
     page_words();
     orders();
     after_set_up();

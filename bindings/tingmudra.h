@@ -7,7 +7,8 @@
  * A call answers a number, 0 or that of a refusal, and up to two values; what is not said to carry a value answers 0
  * there. A refusal changes no word and no number, but for set-up, whose refusals 1 to 3 leave the empty record. Every
  * call but tm_empty, tm_setup, tm_decode, tm_encode and tm_get_order audits record and words first, and answers 4 if
- * they are not sound. The checks go by the refusals' numbers, the lowest first; 13 comes before all.
+ * they are not sound. The checks go by the refusals' numbers, the lowest first, but TINGMUDRA_BAD_BUFFER comes before
+ * all.
  *
  * What the library cannot check, and its caller must see to:
  *   - a buffer is as long as its caller says, and lies at a multiple of 8;
@@ -35,7 +36,11 @@ extern "C" {
 #define TINGMUDRA_MAX_ITEM 65535
 #define TINGMUDRA_MAX_COUNT (UINT64_MAX >> 4)
 
-/* Document 01's refusals by their numbers, and two of this library's own. */
+/*
+ * What an answer's number says. Those below 0x40000000 are the heap's refusals, by document 01's numbers; a later
+ * version may have more of them, so a switch needs a default. Those from 0x40000000 on are the boundary's own, and
+ * never a refusal of the heap's.
+ */
 enum tingmudra_refusal {
     TINGMUDRA_OK = 0,
     TINGMUDRA_BAD_COUNT = 1,             /* set-up: pages 0 or above 4,096, or another number of words */
@@ -50,8 +55,8 @@ enum tingmudra_refusal {
     TINGMUDRA_INVALID_FILE_PAGE = 10,    /* carries the address: no file page */
     TINGMUDRA_REF_FULL = 11,             /* carries the address: get at count 2^60 - 1 */
     TINGMUDRA_INVALID_ITEM = 12,         /* carries the item size: 0 or above 65,535 */
-    TINGMUDRA_BAD_BUFFER = 13,           /* a null pointer, or a record or report of another length */
-    TINGMUDRA_NO = 14                    /* encode, decode: no word has these fields, or no fields this word */
+    TINGMUDRA_BAD_BUFFER = 0x40000000,   /* a null pointer, or a record or report of another length */
+    TINGMUDRA_NO = 0x40000001            /* encode, decode: no word has these fields, or no fields this word */
 };
 
 /* A page's type, by its number in the page's word. */
@@ -75,14 +80,14 @@ struct tingmudra_region {
 };
 
 struct tingmudra_answer {
-    uint64_t number;                            /* an enum tingmudra_refusal */
+    uint64_t number;                            /* an enum tingmudra_refusal, or a later version's refusal */
     uint64_t value;
     uint64_t second;
 };
 
 /* What a word says of its page. */
 struct tingmudra_fields {
-    uint64_t number;                            /* 0, or 14 and zeros */
+    uint64_t number;                            /* 0, or TINGMUDRA_NO and zeros */
     uint64_t kind;                              /* an enum tingmudra_kind */
     uint64_t field;                             /* order, item size or count; 0 for a Reserved page */
     uint64_t next;                              /* a Free page's next page; 0 for other kinds */
@@ -96,7 +101,8 @@ typedef char tingmudra_fields_are_4_numbers[sizeof(struct tingmudra_fields) == 4
 
 /*
  * RAW: what the library exports. Every buffer is a pointer and a length in numbers. A record of any other length than
- * 21, or a report of any other than 12, is refused with 13; a null pointer with a length cannot be seen.
+ * 21, or a report of any other than 12, is refused with TINGMUDRA_BAD_BUFFER; a null pointer with a length cannot be
+ * seen.
  */
 struct tingmudra_answer tingmudra_empty_region(uint64_t *record, size_t record_len);
 struct tingmudra_answer tingmudra_root_mem_init(uint64_t *record, size_t record_len, uint64_t *words, size_t words_len,
@@ -134,7 +140,10 @@ static inline struct tingmudra_answer tingmudra_bad_buffer(void)
     return answer;
 }
 
-/* THE CALLS. `words` is one word a page, `count` their number. A null pointer is refused with 13 by every call. */
+/*
+ * THE CALLS. `words` is one word a page, `count` their number. A null pointer is refused with TINGMUDRA_BAD_BUFFER by
+ * every call.
+ */
 
 /* Makes the record that of a region without pages: counts 0, lists empty, start and boot pages 0. */
 static inline struct tingmudra_answer tm_empty(struct tingmudra_region *region)
@@ -241,7 +250,7 @@ static inline struct tingmudra_answer tm_audit(const struct tingmudra_region *re
     return region && words ? tingmudra_audit(TINGMUDRA_RECORD_READ(region), words, count) : tingmudra_bad_buffer();
 }
 
-/* What a page's word says. Refuses with 14 a word that fits no type. */
+/* What a page's word says. Refuses with TINGMUDRA_NO a word that fits no type. */
 static inline struct tingmudra_fields tm_decode(uint64_t word)
 {
     return tingmudra_decode(word);
@@ -249,7 +258,7 @@ static inline struct tingmudra_fields tm_decode(uint64_t word)
 
 /*
  * The word of raw fields, as its value: order, item size or count, and a Free page's next page or TINGMUDRA_NO_PAGE; a
- * field that the kind does not have is 0. Refuses with 14 if no word has them.
+ * field that the kind does not have is 0. Refuses with TINGMUDRA_NO if no word has them.
  */
 static inline struct tingmudra_answer tm_encode(uint64_t kind, uint64_t field, uint64_t next)
 {

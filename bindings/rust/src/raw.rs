@@ -1,6 +1,6 @@
 //! The calls as the library exports them, on records as slices of numbers and with answers as numbers. Safe, and for
 //! those who keep the record as numbers or test the library: a record of any other length than [`RECORD`], and a report
-//! of any other than [`REPORT`], is refused with 13.
+//! of any other than [`REPORT`], is refused with [`BAD_BUFFER`].
 
 pub use crate::ffi::{
     allocate_file_page, allocate_pages, allocate_slab_page, audit, decode, empty_region, encode, free_page,
@@ -11,6 +11,10 @@ pub use crate::ffi::{
 pub const RECORD: usize = 21;
 /// The length of a report.
 pub const REPORT: usize = 12;
+/// The number of [`Refusal::BadBuffer`](crate::Refusal::BadBuffer).
+pub const BAD_BUFFER: u64 = 0x4000_0000;
+/// The number of [`Refusal::No`](crate::Refusal::No).
+pub const NO: u64 = 0x4000_0001;
 
 /// What a call answers: 0 or the number of its refusal, and what it carries, zeros where it carries less.
 #[repr(C)]
@@ -28,7 +32,7 @@ pub struct Answer {
 #[repr(C)]
 #[derive(Clone, Copy, Debug, PartialEq, Eq)]
 pub struct Fields {
-    /// 0, or 14 beside zeros.
+    /// 0, or [`NO`] beside zeros.
     pub number: u64,
     /// The number of the page's type.
     pub kind: u64,

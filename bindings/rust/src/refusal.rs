@@ -1,9 +1,14 @@
 //! Why a call is refused.
 
-use crate::raw::Answer;
+use crate::raw::{Answer, BAD_BUFFER, NO};
 use core::fmt;
 
-/// Document 01's refusals with what they carry, and two of this library's own.
+/// Document 01's refusals with what they carry, and two of the boundary's own. Numbers below 0x4000_0000 are the heap's
+/// refusals, and those from there on the boundary's.
+///
+/// A later version of the heap may have more refusals, so a `match` needs an arm for them. One that has no name in this
+/// package is [`Refusal::Unknown`], and keeps its number.
+#[non_exhaustive]
 #[derive(Clone, Copy, Debug, PartialEq, Eq)]
 pub enum Refusal {
     /// 1, set-up: pages 0 or above 4,096, or another number of words.
@@ -30,10 +35,19 @@ pub enum Refusal {
     RefFull(u64),
     /// 12, with the item size: 0 or above 65,535.
     InvalidItem(u64),
-    /// 13: a record or report of another length; of the calls in [`raw`](crate::raw) only.
+    /// [`BAD_BUFFER`]: a record or report of another length; of the calls in [`raw`](crate::raw) only.
     BadBuffer,
-    /// 14: no word has these fields, or no fields this word.
+    /// [`NO`]: no word has these fields, or no fields this word.
     No,
+    /// Any other number, with what the answer has beside it.
+    Unknown {
+        /// The refusal's number.
+        number: u64,
+        /// The answer's value; 0 may be none.
+        value: u64,
+        /// The answer's second value; 0 may be none.
+        second: u64,
+    },
 }
 
 impl Refusal {
@@ -42,7 +56,7 @@ impl Refusal {
         self.parts().0
     }
 
-    /// The order, address or item size that it carries.
+    /// The order, address or item size that it carries; of an unknown refusal the answer's value, whatever it is.
     pub fn value(self) -> Option<u64> {
         self.parts().1
     }
@@ -61,8 +75,9 @@ impl Refusal {
             Refusal::InvalidFilePage(address) => (10, Some(address)),
             Refusal::RefFull(address) => (11, Some(address)),
             Refusal::InvalidItem(item) => (12, Some(item)),
-            Refusal::BadBuffer => (13, None),
-            Refusal::No => (14, None),
+            Refusal::BadBuffer => (BAD_BUFFER, None),
+            Refusal::No => (NO, None),
+            Refusal::Unknown { number, value, .. } => (number, Some(value)),
         }
     }
 }
@@ -92,9 +107,9 @@ impl Answer {
             10 => Refusal::InvalidFilePage(self.value),
             11 => Refusal::RefFull(self.value),
             12 => Refusal::InvalidItem(self.value),
-            13 => Refusal::BadBuffer,
-            // 14: the library answers no number above it
-            _ => Refusal::No,
+            BAD_BUFFER => Refusal::BadBuffer,
+            NO => Refusal::No,
+            number => Refusal::Unknown { number, value: self.value, second: self.second },
         })
     }
 }

@@ -44,9 +44,7 @@ pub enum PageInfo {
 /// What a word says; [`Refusal::No`] if it fits no kind.
 pub fn decode(word: u64) -> Result<PageInfo, Refusal> {
     let raw::Fields { number, kind, field, next } = raw::decode(word);
-    if number != 0 {
-        return Err(Refusal::No);
-    }
+    raw::Answer { number, value: 0, second: 0 }.result()?;
     Ok(match kind {
         0 => PageInfo::Free { order: field, next },
         1 => PageInfo::Allocated { order: field },

@@ -82,7 +82,7 @@ fn page_words() {
     }
     for word in [0x63, 0x5, 0x1f] {
         assert_eq!(decode(word), Err(Refusal::No));
-        assert_eq!(raw::decode(word), Fields { number: 14, kind: 0, field: 0, next: 0 });
+        assert_eq!(raw::decode(word), Fields { number: raw::NO, kind: 0, field: 0, next: 0 });
     }
     let no = [
         PageInfo::Allocated { order: 6 },
@@ -95,7 +95,7 @@ fn page_words() {
         assert_eq!(encode(info), Err(Refusal::No));
     }
     for (kind, field, next) in [(5, 0, 0), (1, 1, 1), (15, 1, 0), (u64::MAX, u64::MAX, u64::MAX)] {
-        assert_eq!(raw::encode(kind, field, next), Answer { number: 14, value: 0, second: 0 });
+        assert_eq!(raw::encode(kind, field, next), Answer { number: raw::NO, value: 0, second: 0 });
     }
 }
 
@@ -271,7 +271,7 @@ fn damages() {
 
 #[test]
 fn buffers_of_another_length() {
-    let bad = Answer { number: 13, value: 0, second: 0 };
+    let bad = Answer { number: raw::BAD_BUFFER, value: 0, second: 0 };
     assert_eq!(bad.result(), Err(Refusal::BadBuffer));
     let mut words = [GUARD; 64];
     for length in [0, 20, 22] {
@@ -318,14 +318,25 @@ fn numbers_and_values() {
         (Refusal::InvalidFilePage(9), Some(9)),
         (Refusal::RefFull(9), Some(9)),
         (Refusal::InvalidItem(9), Some(9)),
-        (Refusal::BadBuffer, None),
-        (Refusal::No, None),
     ];
-    for (number, (refusal, value)) in (1..).zip(refusals) {
+    let own = [(0x4000_0000, (Refusal::BadBuffer, None)), (0x4000_0001, (Refusal::No, None))];
+    for (number, (refusal, value)) in (1..).zip(refusals).chain(own) {
         assert_eq!((refusal.number(), refusal.value()), (number, value));
         let answer = Answer { number, value: value.unwrap_or(0), second: 0 };
         assert_eq!(answer.result(), Err(refusal));
     }
+    assert_eq!((raw::BAD_BUFFER, raw::NO), (0x4000_0000, 0x4000_0001));
+}
+
+#[test]
+fn unknown_numbers() {
+    for number in [13, 14, 23, 0x3fff_ffff, 0x4000_0002, u64::MAX] {
+        let refusal = Answer { number, value: 7, second: 8 }.result().expect_err("a refusal");
+        assert_eq!(refusal, Refusal::Unknown { number, value: 7, second: 8 });
+        assert_eq!((refusal.number(), refusal.value()), (number, Some(7)));
+        assert!(refusal.to_string().starts_with(&format!("refusal {number}, Unknown")));
+    }
+    assert_eq!(Answer { number: 0, value: 7, second: 8 }.result(), Ok((7, 8)));
 }
 
 #[test]
