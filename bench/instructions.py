@@ -11,7 +11,8 @@ import subprocess
 import tempfile
 
 CALLS = 1000
-AUDIT = "audit::"
+# the audit's functions; those that only the public audit calls are compiled into it
+AUDIT = ("audit::", "heap::reads::audit")
 PLAIN = ["list-by-list", "one-walk"]
 WIDE = re.compile(r"\t(?:mov[a-z]+\s.*%[xyz]mm\d+.*\(|mov[a-z]+\s.*\(.*%[xyz]mm\d+|(?:ld|st)u?[rp]\s+q\d+)")
 
