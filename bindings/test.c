@@ -121,6 +121,35 @@ static void own_numbers(void)
     CHECK(TINGMUDRA_BAD_BUFFER == 0x40000000 && TINGMUDRA_NO == 0x40000001);
 }
 
+static int is_named(uint64_t number, const char *name)
+{
+    return strcmp(tm_refusal_name(number), name) == 0;
+}
+
+static void refusal_names(void)
+{
+    CHECK(is_named(TINGMUDRA_OK, "Ok"));
+    CHECK(is_named(TINGMUDRA_BAD_COUNT, "BadCount"));
+    CHECK(is_named(TINGMUDRA_BAD_START, "BadStart"));
+    CHECK(is_named(TINGMUDRA_TOO_MANY_BOOT, "TooManyBoot"));
+    CHECK(is_named(TINGMUDRA_DAMAGED, "Damaged"));
+    CHECK(is_named(TINGMUDRA_INVALID_PAGE_ORDER, "InvalidPageOrder"));
+    CHECK(is_named(TINGMUDRA_OUT_OF_MEMORY, "OutOfMemory"));
+    CHECK(is_named(TINGMUDRA_INVALID_HEAP_ADDRESS, "InvalidHeapAddress"));
+    CHECK(is_named(TINGMUDRA_BOOT_PAGE, "BootPage"));
+    CHECK(is_named(TINGMUDRA_INVALID_PAGE_TYPE, "InvalidPageType"));
+    CHECK(is_named(TINGMUDRA_INVALID_FILE_PAGE, "InvalidFilePage"));
+    CHECK(is_named(TINGMUDRA_REF_FULL, "RefFull"));
+    CHECK(is_named(TINGMUDRA_INVALID_ITEM, "InvalidItem"));
+    CHECK(is_named(TINGMUDRA_BAD_BUFFER, "BadBuffer"));
+    CHECK(is_named(TINGMUDRA_NO, "No"));
+    CHECK(is_named(13, "Unknown"));
+    CHECK(is_named(UINT64_C(0x3fffffff), "Unknown"));
+    CHECK(is_named(UINT64_C(0x40000002), "Unknown"));
+    CHECK(is_named((UINT64_C(1) << 32) + 4, "Unknown"));
+    CHECK(is_named(UINT64_MAX, "Unknown"));
+}
+
 static int word_is(uint64_t kind, uint64_t field, uint64_t next, uint64_t word)
 {
     struct tingmudra_fields said = tm_decode(word);
@@ -339,6 +368,55 @@ static void damages(void)
     damaged(0);
 }
 
+/* Damage that leaves record and words sound, and what comes of it: no call sees it. */
+static void unseen_damages(void)
+{
+    set_up_r();
+    region->start += TINGMUDRA_PAGE_SIZE;
+    CHECK(says(tm_audit(region, words, PAGES), 0, 0, 0));
+    CHECK(says(tm_allocate(region, words, PAGES, 0), 0, at(63), 0)); /* page 62 lies at(62) */
+
+    set_up_r();
+    region->allocated = 2;
+    region->nr_pages[0]++;
+    CHECK(says(tm_audit(region, words, PAGES), 0, 0, 0));
+    CHECK(says(tm_free(region, words, PAGES, at(2)), 0, 0, 0)); /* a boot page */
+
+    set_up_r();
+    CHECK(says(tm_allocate_file(region, words, PAGES), 0, at(62), 0));
+    words[62] = tm_encode(TINGMUDRA_FILE, 7, 0).value;
+    CHECK(says(tm_get(region, words, PAGES, at(62)), 0, 8, 0));
+    words[62] = tm_encode(TINGMUDRA_SLAB, 64, 0).value;
+    CHECK(says(tm_lookup(region, words, PAGES, at(62)), 0, 64, 64));
+    words[62] = tm_encode(TINGMUDRA_SLAB, 32, 0).value;
+    CHECK(says(tm_lookup(region, words, PAGES, at(62)), 0, 32, 32));
+    words[62] = tm_encode(TINGMUDRA_ALLOCATED, 0, 0).value;
+    CHECK(says(tm_lookup(region, words, PAGES, at(62)), 0, 4096, 4096));
+
+    set_up_r();
+    kept = now;
+    CHECK(says(tm_allocate(region, words, PAGES, 1), 0, at(60), 0));
+    now = kept; /* an older state */
+    CHECK(says(tm_allocate(region, words, PAGES, 1), 0, at(60), 0));
+}
+
+/* The words lie in the region's metadata pages: every page that is granted is written to, and they stay sound. */
+static void words_in_the_region(void)
+{
+    static uint64_t memory[1024 * 512];
+    uint64_t *lent = memory + 1022 * 512;
+    struct tingmudra_answer answer;
+    int granted = 0;
+    CHECK(says(tm_setup(region, lent, 1024, START, 1024, 3), 0, 0, 0));
+    while ((answer = tm_allocate(region, lent, 1024, 0)).number == 0) {
+        memset(memory + (answer.value - START) / 8, 0xff, TINGMUDRA_PAGE_SIZE);
+        granted++;
+    }
+    CHECK(answer.number == TINGMUDRA_OUT_OF_MEMORY && granted == 1024 - 3 - 2);
+    CHECK(memory[3 * 512 - 1] == 0 && memory[3 * 512] == UINT64_MAX); /* boot pages are not granted */
+    CHECK(says(tm_audit(region, lent, 1024), 0, 0, 0));
+}
+
 /* Every raw call on a record of another length. */
 static void record_of(uint64_t *record, size_t length)
 {
@@ -425,6 +503,7 @@ int main(void)
 {
     layouts();
     own_numbers();
+    refusal_names();
     page_words();
     orders();
     after_set_up();
@@ -434,6 +513,8 @@ int main(void)
     refused_requests();
     out_of_memory();
     damages();
+    unseen_damages();
+    words_in_the_region();
     buffers();
     null_pointers();
     other_regions();

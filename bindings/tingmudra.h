@@ -1,22 +1,40 @@
 /*
- * Tingmudra: a proved page heap, for C99. Link with libabi.a, which `rt staticlib abi` writes.
+ * Tingmudra: a proved page heap, for C99 and C++. Link with one of these archives, which have the same functions:
+ *   - target/staticlib/libabi.a, which `rt staticlib abi` writes: for user space on x86-64. It uses vector registers
+ *     and the red zone, so it is not for a kernel;
+ *   - target/kernel/MACHINE/libabi.a, which `bindings/kernel` writes, MACHINE being x86_64 or aarch64: for kernels and
+ *     monitors. General registers only, no red zone, position-independent;
+ *   - OUT, which `bench/native abi OUT` writes: for user space on the machine at hand, where that is no x86-64.
  *
  * A region is a record (struct tingmudra_region) and one word a page, lent by the caller. Keep both together and hand
  * each call what the last one left. Call the tm_ functions below; they pass the record's length and refuse NULL.
  *
  * A call answers a number, 0 or that of a refusal, and up to two values; what is not said to carry a value answers 0
  * there. A refusal changes no word and no number, but for set-up, whose refusals 1 to 3 leave the empty record. Every
- * call but tm_empty, tm_setup, tm_decode, tm_encode and tm_get_order audits record and words first, and answers 4 if
- * they are not sound. The checks go by the refusals' numbers, the lowest first, but TINGMUDRA_BAD_BUFFER comes before
- * all.
+ * call but tm_empty, tm_setup, tm_decode, tm_encode and tm_get_order audits record and words first. The checks go by
+ * the refusals' numbers, the lowest first, but TINGMUDRA_BAD_BUFFER comes before all.
+ *
+ * Where things lie:
+ *   - page p lies at start + 4096 * p;
+ *   - the first pages are the boot pages, as many as set-up is told. The last are the metadata pages: 8 * pages / 4096,
+ *     rounded up. The heap grants neither: 64 pages with 3 boot pages have 60 to grant and to report, 240 KiB;
+ *   - the words lie in the buffer that the caller lends. That may be memory anywhere, or the metadata pages themselves,
+ *     which begin at start + 4096 * (pages - metadata pages);
+ *   - to the heap an address is a number: it touches no page of the region, but for words that lie there.
+ *
+ * A call that audits answers 4 exactly where record and words are not sound together. Damage that leaves them sound is
+ * not seen by any call (docs/EXCEPTIONS.md), such as:
+ *   - a start that was moved to another page: every address is then wrong by as much;
+ *   - a boot count that was changed together with a block count: a boot page can then be freed, and granted;
+ *   - the count of a file page, or the item size of a slab page;
+ *   - a block of one kind that was made one of another: allocated of order 0, slab page, file page;
+ *   - an older sound state that was put back: what was granted since then can be granted again.
  *
  * What the library cannot check, and its caller must see to:
  *   - a buffer is as long as its caller says, and lies at a multiple of 8;
  *   - record, words and report do not overlap;
  *   - no two threads use one region at once;
- *   - the record's start and boot count are those of set-up: the words do not hold them, so a region whose start was
- *     moved, or whose boot page is counted as a block, can be sound, and is then granted or freed from as it says. Keep
- *     them where nothing else writes, and compare them when in doubt (docs/EXCEPTIONS.md).
+ *   - the record's start and boot count are those of set-up. Keep them where nothing else writes, and compare.
  */
 #ifndef TINGMUDRA_H
 #define TINGMUDRA_H
@@ -28,6 +46,7 @@
 extern "C" {
 #endif
 
+#define TINGMUDRA_VERSION "0.2.0"
 #define TINGMUDRA_PAGE_SIZE 4096
 #define TINGMUDRA_MAX_PAGES 4096
 #define TINGMUDRA_MAX_ORDER 6            /* orders are 0 to 5 */
@@ -46,7 +65,7 @@ enum tingmudra_refusal {
     TINGMUDRA_BAD_COUNT = 1,             /* set-up: pages 0 or above 4,096, or another number of words */
     TINGMUDRA_BAD_START = 2,             /* set-up: start no multiple of 4,096, or the end above 2^64 - 1 */
     TINGMUDRA_TOO_MANY_BOOT = 3,         /* set-up: more boot pages than pages that are not metadata */
-    TINGMUDRA_DAMAGED = 4,               /* record and words are not sound */
+    TINGMUDRA_DAMAGED = 4,               /* record and words are not sound together */
     TINGMUDRA_INVALID_PAGE_ORDER = 5,    /* carries the order: 6 or above */
     TINGMUDRA_OUT_OF_MEMORY = 6,         /* no free block of that order or a higher one */
     TINGMUDRA_INVALID_HEAP_ADDRESS = 7,  /* carries the address: outside the region or, but for lookup, inside a page */
@@ -138,6 +157,32 @@ static inline struct tingmudra_answer tingmudra_bad_buffer(void)
 {
     struct tingmudra_answer answer = {TINGMUDRA_BAD_BUFFER, 0, 0};
     return answer;
+}
+
+/*
+ * The name of an answer's number: "Ok" for 0, the refusal's as docs/RULES.md has it ("BadCount" to "InvalidItem"),
+ * "BadBuffer" or "No", and "Unknown" for any other. Never NULL.
+ */
+static inline const char *tm_refusal_name(uint64_t number)
+{
+    switch (number) {
+    case TINGMUDRA_OK: return "Ok";
+    case TINGMUDRA_BAD_COUNT: return "BadCount";
+    case TINGMUDRA_BAD_START: return "BadStart";
+    case TINGMUDRA_TOO_MANY_BOOT: return "TooManyBoot";
+    case TINGMUDRA_DAMAGED: return "Damaged";
+    case TINGMUDRA_INVALID_PAGE_ORDER: return "InvalidPageOrder";
+    case TINGMUDRA_OUT_OF_MEMORY: return "OutOfMemory";
+    case TINGMUDRA_INVALID_HEAP_ADDRESS: return "InvalidHeapAddress";
+    case TINGMUDRA_BOOT_PAGE: return "BootPage";
+    case TINGMUDRA_INVALID_PAGE_TYPE: return "InvalidPageType";
+    case TINGMUDRA_INVALID_FILE_PAGE: return "InvalidFilePage";
+    case TINGMUDRA_REF_FULL: return "RefFull";
+    case TINGMUDRA_INVALID_ITEM: return "InvalidItem";
+    case TINGMUDRA_BAD_BUFFER: return "BadBuffer";
+    case TINGMUDRA_NO: return "No";
+    default: return "Unknown";
+    }
 }
 
 /*
@@ -243,7 +288,10 @@ static inline struct tingmudra_answer tm_report(const struct tingmudra_region *r
         : tingmudra_bad_buffer();
 }
 
-/* Whether record and words are sound: 0 or 4. Changes nothing. */
+/*
+ * Whether record and words are sound together: 0 or 4. That they are those which the last call left it does not say.
+ * Changes nothing.
+ */
 static inline struct tingmudra_answer tm_audit(const struct tingmudra_region *region, const uint64_t *words,
                                                size_t count)
 {

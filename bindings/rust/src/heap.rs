@@ -1,9 +1,14 @@
 //! The heap: a record and the words lent to it.
 
 use crate::ffi::{numbers, numbers_mut};
-use crate::{raw, Refusal, Region, MAX_ORDER};
+use crate::{raw, Refusal, Region, MAX_ORDER, PAGE_SIZE};
+use core::fmt;
 
-/// A region's record and its words, one a page. Both may hold anything: what is not sound is refused.
+/// A region's record and its words, one a page. Both may hold anything: a call is refused with 4 where they are not
+/// sound together ([what that says](crate#what-4-says)).
+///
+/// Calls that change something take it by `&mut`, so a heap that threads share stands behind a lock. Where record and
+/// words are kept apart, `Heap { region, words }` puts them together for a call; keep its `region` again afterwards.
 #[derive(Debug)]
 pub struct Heap<'a> {
     /// The record; keep it beside the words.
@@ -12,8 +17,8 @@ pub struct Heap<'a> {
     pub words: &'a mut [u64],
 }
 
-/// What a page was granted as.
-#[derive(Clone, Copy, Debug, PartialEq, Eq)]
+/// What a page was granted as. It is no `core::alloc::Layout`: an item size need not be a power of two.
+#[derive(Clone, Copy, Debug, PartialEq, Eq, Hash)]
 pub struct Layout {
     /// Bytes.
     pub size: u64,
@@ -21,8 +26,8 @@ pub struct Layout {
     pub align: u64,
 }
 
-/// Blocks and free blocks of each order.
-#[derive(Clone, Copy, Debug, PartialEq, Eq)]
+/// Blocks and free blocks of each order. It is shown as the shell prints it.
+#[derive(Clone, Copy, Debug, PartialEq, Eq, Hash)]
 pub struct Report {
     /// Blocks.
     pub total_pages: [u64; MAX_ORDER],
@@ -88,9 +93,25 @@ impl<'a> Heap<'a> {
         Ok(Report { total_pages: [t0, t1, t2, t3, t4, t5], free_pages: [f0, f1, f2, f3, f4, f5] })
     }
 
-    /// Whether record and words are sound. Refused with 4 if not. A start or a boot count that something else wrote over
-    /// can pass, since the words do not hold them: keep these two elsewhere, and compare.
+    /// Whether record and words are sound together. Refused with 4 if not. That they are those which the last call left
+    /// it does not say ([what no call sees](crate#what-4-says)).
     pub fn audit(&self) -> Result<(), Refusal> {
         raw::audit(numbers(&self.region), self.words).result().map(drop)
     }
+}
+
+/// The seven lines that the shell prints, without the last newline.
+impl fmt::Display for Report {
+    fn fmt(&self, f: &mut fmt::Formatter<'_>) -> fmt::Result {
+        for (order, (total, free)) in self.total_pages.into_iter().zip(self.free_pages).enumerate() {
+            writeln!(f, "Order-{order:02}: total pages: {total:5} free pages: {free:5}")?;
+        }
+        write!(f, "Total memory: {}KiB free memory: {}KiB", kib(self.total_pages), kib(self.free_pages))
+    }
+}
+
+/// The memory of so many blocks of each order. Anyone can make a report, so no number may overflow.
+fn kib(blocks: [u64; MAX_ORDER]) -> u64 {
+    let sizes = (0..).map(|order| (PAGE_SIZE / 1024) << order);
+    blocks.into_iter().zip(sizes).fold(0, |sum, (count, size)| sum.saturating_add(count.saturating_mul(size)))
 }

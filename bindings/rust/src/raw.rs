@@ -17,8 +17,9 @@ pub const BAD_BUFFER: u64 = 0x4000_0000;
 pub const NO: u64 = 0x4000_0001;
 
 /// What a call answers: 0 or the number of its refusal, and what it carries, zeros where it carries less.
+#[must_use = "a call may be refused"]
 #[repr(C)]
-#[derive(Clone, Copy, Debug, PartialEq, Eq)]
+#[derive(Clone, Copy, Debug, PartialEq, Eq, Hash)]
 pub struct Answer {
     /// 0, or the number of a [`Refusal`](crate::Refusal).
     pub number: u64,
@@ -30,7 +31,7 @@ pub struct Answer {
 
 /// A page's fields: 0 where its kind has no such field.
 #[repr(C)]
-#[derive(Clone, Copy, Debug, PartialEq, Eq)]
+#[derive(Clone, Copy, Debug, PartialEq, Eq, Hash)]
 pub struct Fields {
     /// 0, or [`NO`] beside zeros.
     pub number: u64,

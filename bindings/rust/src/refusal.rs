@@ -9,7 +9,7 @@ use core::fmt;
 /// A later version of the heap may have more refusals, so a `match` needs an arm for them. One that has no name in this
 /// package is [`Refusal::Unknown`], and keeps its number.
 #[non_exhaustive]
-#[derive(Clone, Copy, Debug, PartialEq, Eq)]
+#[derive(Clone, Copy, Debug, PartialEq, Eq, Hash)]
 pub enum Refusal {
     /// 1, set-up: pages 0 or above 4,096, or another number of words.
     BadCount,
@@ -17,7 +17,8 @@ pub enum Refusal {
     BadStart,
     /// 3, set-up: more boot pages than pages that are not metadata.
     TooManyBoot,
-    /// 4: record and words are not sound.
+    /// 4: record and words are not sound together. Damage that leaves them sound is not seen: see
+    /// [the crate's page](crate#what-4-says).
     Damaged,
     /// 5, with the order: 6 or above.
     InvalidPageOrder(u64),
@@ -56,28 +57,34 @@ impl Refusal {
         self.parts().0
     }
 
-    /// The order, address or item size that it carries; of an unknown refusal the answer's value, whatever it is.
-    pub fn value(self) -> Option<u64> {
+    /// The refusal's name without what it carries, as docs/RULES.md and `tm_refusal_name` of the C header have it.
+    pub fn name(self) -> &'static str {
         self.parts().1
     }
 
-    fn parts(self) -> (u64, Option<u64>) {
+    /// The order, address or item size that it carries; of an unknown refusal the answer's value, whatever it is.
+    pub fn value(self) -> Option<u64> {
+        self.parts().2
+    }
+
+    /// Number, name and value.
+    fn parts(self) -> (u64, &'static str, Option<u64>) {
         match self {
-            Refusal::BadCount => (1, None),
-            Refusal::BadStart => (2, None),
-            Refusal::TooManyBoot => (3, None),
-            Refusal::Damaged => (4, None),
-            Refusal::InvalidPageOrder(order) => (5, Some(order)),
-            Refusal::OutOfMemory => (6, None),
-            Refusal::InvalidHeapAddress(address) => (7, Some(address)),
-            Refusal::BootPage(address) => (8, Some(address)),
-            Refusal::InvalidPageType(address) => (9, Some(address)),
-            Refusal::InvalidFilePage(address) => (10, Some(address)),
-            Refusal::RefFull(address) => (11, Some(address)),
-            Refusal::InvalidItem(item) => (12, Some(item)),
-            Refusal::BadBuffer => (BAD_BUFFER, None),
-            Refusal::No => (NO, None),
-            Refusal::Unknown { number, value, .. } => (number, Some(value)),
+            Refusal::BadCount => (1, "BadCount", None),
+            Refusal::BadStart => (2, "BadStart", None),
+            Refusal::TooManyBoot => (3, "TooManyBoot", None),
+            Refusal::Damaged => (4, "Damaged", None),
+            Refusal::InvalidPageOrder(order) => (5, "InvalidPageOrder", Some(order)),
+            Refusal::OutOfMemory => (6, "OutOfMemory", None),
+            Refusal::InvalidHeapAddress(address) => (7, "InvalidHeapAddress", Some(address)),
+            Refusal::BootPage(address) => (8, "BootPage", Some(address)),
+            Refusal::InvalidPageType(address) => (9, "InvalidPageType", Some(address)),
+            Refusal::InvalidFilePage(address) => (10, "InvalidFilePage", Some(address)),
+            Refusal::RefFull(address) => (11, "RefFull", Some(address)),
+            Refusal::InvalidItem(item) => (12, "InvalidItem", Some(item)),
+            Refusal::BadBuffer => (BAD_BUFFER, "BadBuffer", None),
+            Refusal::No => (NO, "No", None),
+            Refusal::Unknown { number, value, .. } => (number, "Unknown", Some(value)),
         }
     }
 }

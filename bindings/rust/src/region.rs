@@ -10,14 +10,16 @@ pub const MAX_ORDER: usize = 6;
 pub const NO_PAGE: u64 = u64::MAX;
 
 /// The region record: 21 numbers, as the library reads and writes them.
+///
+/// The words tell whether all but two of them are right. Keep `start` and `allocated` elsewhere too, and compare.
 #[repr(C)]
-#[derive(Clone, Copy, Debug, PartialEq, Eq)]
+#[derive(Clone, Copy, Debug, PartialEq, Eq, Hash)]
 pub struct Region {
     /// The address of page 0.
     pub start: u64,
     /// Pages, boot and metadata pages among them.
     pub page_count: u64,
-    /// Boot pages: never granted, never freed.
+    /// Boot pages, the first ones: never granted, never freed.
     pub allocated: u64,
     /// Blocks of each order.
     pub nr_pages: [u64; MAX_ORDER],

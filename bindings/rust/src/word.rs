@@ -8,7 +8,7 @@ pub const MAX_ITEM: u64 = 0xffff;
 pub const MAX_COUNT: u64 = u64::MAX >> 4;
 
 /// What a word says of its page.
-#[derive(Clone, Copy, Debug, PartialEq, Eq)]
+#[derive(Clone, Copy, Debug, PartialEq, Eq, Hash)]
 pub enum PageInfo {
     /// The head of a free block.
     Free {
@@ -69,7 +69,9 @@ pub fn encode(info: PageInfo) -> Result<u64, Refusal> {
     Ok(raw::encode(kind, field, next).result()?.0)
 }
 
-/// The least order whose block holds a size in bytes: 0 for 0, 52 above 2^63.
+/// The least order whose block holds a size in bytes: 0 for 0, 52 above 2^63. From 131,073 bytes on it is 6 or more,
+/// which [`Heap::allocate`](crate::Heap::allocate) refuses.
+#[must_use]
 pub fn get_order(size: u64) -> u64 {
     raw::get_order(size)
 }

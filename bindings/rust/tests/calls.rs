@@ -145,6 +145,22 @@ fn grants() {
 }
 
 #[test]
+fn reports_as_text() {
+    let report = Report { total_pages: [2, 1, 2, 2, 2, 0], free_pages: [2, 0, 2, 2, 2, 0] };
+    let lines = "\
+Order-00: total pages:     2 free pages:     2
+Order-01: total pages:     1 free pages:     0
+Order-02: total pages:     2 free pages:     2
+Order-03: total pages:     2 free pages:     2
+Order-04: total pages:     2 free pages:     2
+Order-05: total pages:     0 free pages:     0
+Total memory: 240KiB free memory: 232KiB";
+    assert_eq!(report.to_string(), lines);
+    let report = Report { total_pages: [u64::MAX; MAX_ORDER], free_pages: [0; MAX_ORDER] };
+    assert!(report.to_string().ends_with("Total memory: 18446744073709551615KiB free memory: 0KiB"));
+}
+
+#[test]
 fn file_and_slab_pages() {
     let mut words = [0; 64];
     let mut heap = set_up_r(&mut words);
@@ -269,6 +285,38 @@ fn damages() {
     damaged(&mut Heap::new(&mut []));
 }
 
+/// Damage that leaves record and words sound, and what comes of it: no call sees it.
+#[test]
+fn unseen_damages() {
+    let mut words = [0; 64];
+    let heap = &mut set_up_r(&mut words);
+    heap.region.start += PAGE_SIZE;
+    assert_eq!(heap.allocate(0), Ok(at(63)), "page 62 lies elsewhere");
+
+    let heap = &mut set_up_r(heap.words);
+    heap.region.allocated = 2;
+    heap.region.nr_pages[0] += 1;
+    assert_eq!(heap.free(at(2)), Ok(()), "a boot page");
+
+    let heap = &mut set_up_r(heap.words);
+    assert_eq!(heap.allocate_file(), Ok(at(62)));
+    heap.words[62] = encode(PageInfo::File { count: 7 }).expect("another count");
+    assert_eq!(heap.get(at(62)), Ok(8));
+    for item in [64, 32] {
+        heap.words[62] = encode(PageInfo::Slab { item }).expect("another kind, another item");
+        assert_eq!(heap.lookup(at(62)), Ok(Layout { size: item, align: item }));
+    }
+    heap.words[62] = encode(PageInfo::Allocated { order: 0 }).expect("another kind");
+    assert_eq!(heap.lookup(at(62)), Ok(Layout { size: 4096, align: 4096 }));
+
+    let heap = &mut set_up_r(heap.words);
+    let older = (heap.region, heap.words.to_vec());
+    assert_eq!(heap.allocate(1), Ok(at(60)));
+    heap.region = older.0;
+    heap.words.copy_from_slice(&older.1);
+    assert_eq!(heap.allocate(1), Ok(at(60)), "it is out already");
+}
+
 #[test]
 fn buffers_of_another_length() {
     let bad = Answer { number: raw::BAD_BUFFER, value: 0, second: 0 };
@@ -304,7 +352,7 @@ fn buffers_of_another_length() {
 }
 
 #[test]
-fn numbers_and_values() {
+fn numbers_names_and_values() {
     let refusals = [
         (Refusal::BadCount, None),
         (Refusal::BadStart, None),
@@ -322,6 +370,9 @@ fn numbers_and_values() {
     let own = [(0x4000_0000, (Refusal::BadBuffer, None)), (0x4000_0001, (Refusal::No, None))];
     for (number, (refusal, value)) in (1..).zip(refusals).chain(own) {
         assert_eq!((refusal.number(), refusal.value()), (number, value));
+        let carried = value.map_or(String::new(), |value| format!("({value})"));
+        assert_eq!(format!("{refusal:?}"), format!("{}{carried}", refusal.name()));
+        assert_eq!(refusal.to_string(), format!("refusal {number}, {refusal:?}"));
         let answer = Answer { number, value: value.unwrap_or(0), second: 0 };
         assert_eq!(answer.result(), Err(refusal));
     }
@@ -333,7 +384,7 @@ fn unknown_numbers() {
     for number in [13, 14, 23, 0x3fff_ffff, 0x4000_0002, u64::MAX] {
         let refusal = Answer { number, value: 7, second: 8 }.result().expect_err("a refusal");
         assert_eq!(refusal, Refusal::Unknown { number, value: 7, second: 8 });
-        assert_eq!((refusal.number(), refusal.value()), (number, Some(7)));
+        assert_eq!((refusal.number(), refusal.name(), refusal.value()), (number, "Unknown", Some(7)));
         assert!(refusal.to_string().starts_with(&format!("refusal {number}, Unknown")));
     }
     assert_eq!(Answer { number: 0, value: 7, second: 8 }.result(), Ok((7, 8)));
