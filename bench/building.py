@@ -1,6 +1,7 @@
 """What bench/compare and bench/damage begin and end with: the library for this machine, and bench/ratios linked with it."""
 
 import os
+import shutil
 import subprocess
 import sys
 
@@ -18,7 +19,16 @@ def output(*command):
     return subprocess.run(command, stdout=subprocess.PIPE, text=True, check=True, cwd=ROOT).stdout
 
 
+def need(*programs):
+    """Ends with status 2 where one of these is not installed, and names it."""
+    missing = [program for program in programs if shutil.which(program) is None]
+    if missing:
+        say("not installed: %s (--help says what each is for)" % ", ".join(missing))
+        sys.exit(2)
+
+
 def build():
+    """Needs rt and cargo."""
     say("bench/native abi target/native/libabi.a")
     os.makedirs(os.path.dirname(ARCHIVE), exist_ok=True)
     output("bench/native", "abi", ARCHIVE)

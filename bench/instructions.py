@@ -7,8 +7,9 @@ Callgrind's own functions are not used: on some processors it loses track of ret
 import bisect
 import os
 import re
-import subprocess
 import tempfile
+
+from building import output
 
 CALLS = 1000
 # the audit's functions; those that only the public audit calls are compiled into it
@@ -17,19 +18,15 @@ PLAIN = ["list-by-list", "one-walk"]
 WIDE = re.compile(r"\t(?:mov[a-z]+\s.*%[xyz]mm\d+.*\(|mov[a-z]+\s.*\(.*%[xyz]mm\d+|(?:ld|st)u?[rp]\s+q\d+)")
 
 
-def run(*command):
-    return subprocess.run(command, stdout=subprocess.PIPE, stderr=subprocess.PIPE, text=True, check=True).stdout
-
-
 def names(path):
     """The functions of a program or an archive: (address, name), by address."""
-    rows = (line.split(" ", 2) for line in run("nm", "--defined-only", path).splitlines())
+    rows = (line.split(" ", 2) for line in output("nm", "--defined-only", path).splitlines())
     return sorted((int(row[0], 16), row[2]) for row in rows if len(row) == 3 and row[1] in "tTwW")
 
 
 def wide_moves(program):
     """The addresses whose instruction loads or stores 16 bytes or more."""
-    lines = run("objdump", "-d", "--no-show-raw-insn", program).splitlines()
+    lines = output("objdump", "-d", "--no-show-raw-insn", program).splitlines()
     return {int(line.split(":")[0], 16) for line in lines if WIDE.search(line)}
 
 
@@ -38,8 +35,8 @@ def counted(program, heap, work, pages):
     with tempfile.TemporaryDirectory() as folder:
         out = os.path.join(folder, "out")
         plain_text = ("--dump-instr=yes", "--compress-pos=no", "--compress-strings=no", "--callgrind-out-file=" + out)
-        run("valgrind", "--tool=callgrind", "--toggle-collect=*driven*", *plain_text,
-            program, "drive", heap, work, str(pages), str(CALLS))
+        output("valgrind", "--quiet", "--tool=callgrind", "--toggle-collect=*driven*", *plain_text,
+               program, "drive", heap, work, str(pages), str(CALLS))
         at, copies, mine, copying, called = {}, 0, False, False, False
         for line in open(out):
             if line.startswith("ob="):

@@ -13,7 +13,7 @@ looks at a word or at the state line, and knows nothing of how a heap works insi
   - a file page's count is 1 plus gets less puts; a put is a return when it answers 0
   - every return of what is out succeeds, no return of anything else does, and no call answers 4
 
-The program must answer when its input runs dry. Exit status: 0 held, 1 broken, 2 wrong use.
+The program must answer when its input runs dry. Exit status: 0 held, 1 broken, 2 wrong use or a program that does not run.
 """
 
 import argparse
@@ -24,6 +24,10 @@ import shlex
 import subprocess
 import sys
 import time
+
+sys.dont_write_bytecode = True
+
+import running
 
 PAGE_SIZE = 4096
 ORDERS = 6
@@ -340,13 +344,11 @@ def arguments():
 
 def main():
     asked = arguments()
+    if not running.ready([asked.program]):
+        return 2
     rng = random.Random(asked.seed)
     begin = shown = time.time()
-    try:
-        program = Program(asked.program, asked.timeout)
-    except OSError as error:
-        print("demand3: %s" % error, file=sys.stderr)
-        return 2
+    program = Program(asked.program, asked.timeout)
     buffers = 0
     try:
         while True:

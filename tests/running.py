@@ -4,11 +4,34 @@ import os
 import select
 import shlex
 import subprocess
+import sys
 import threading
 from concurrent.futures import ThreadPoolExecutor
 
 LINES_OF_LISTS = 6
 LINES_OF_PRINT = 7
+# what builds a program that is not there, by the end of its path
+BUILT_BY = {"bench/target/release/plain": "(cd bench && cargo build --release)", "target/bin/heapsh": "rt check heapsh"}
+
+
+def ready(commands):
+    """Whether all of them run on no requests, which also builds ./heapsh where it is not built yet; says of each that does not why."""
+    faults = [line for line in map(fault, commands) if line]
+    print("".join(line + "\n" for line in faults), end="", file=sys.stderr)
+    return not faults
+
+
+def fault(command):
+    """Why a program does not run, as a line, or None."""
+    words = shlex.split(command)
+    if not words:
+        return "a program without a name"
+    try:
+        status = subprocess.run(words, stdin=subprocess.DEVNULL, stdout=subprocess.DEVNULL).returncode
+    except OSError as error:
+        builds = ["; %s builds it" % how for end, how in BUILT_BY.items() if words[0].endswith(end)]
+        return "%s: %s%s" % (words[0], error.strerror, "".join(builds))
+    return "%s: exit status %d on no requests" % (command, status) if status else None
 
 
 class Outcome:
