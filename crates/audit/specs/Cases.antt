@@ -123,9 +123,12 @@ table =
     -- 63 boot pages in 64
     ∷ sound (idle-region 64) (idle-words 64)
     ∷ sound s-region s-words
-    -- File and SlabPage head blocks, from count 1 and item 1 on
+    -- File and SlabPage head blocks, from count 1 and item 1 on. What no audit can see: a granted page that was made one of another kind, or a
+    -- File whose count was changed
     ∷ sound (out-region 2) (out-words (fileInfo 1))
     ∷ sound (out-region 2) (out-words (slabInfo 1))
+    ∷ sound (out-region 2) (out-words (allocatedInfo 0))
+    ∷ sound (out-region 2) (out-words (fileInfo 7))
     -- no pages
     ∷ refused (some ∷ []) (idle-region 0) (idle-words 0)
     -- 513 words for 512 pages, and 7 for 8, where the metadata page has no word
