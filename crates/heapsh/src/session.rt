@@ -1,11 +1,16 @@
 // The input, block after block. A line may begin in one block and end in another.
 ghost use Prim.Native.Nat.{_≤_};
 ghost use lib.ListN.{length};
+use crate::terminal::Line;
+use crate::terminal::kind;
+use crate::terminal::leave;
+use crate::terminal::prompt;
 use libc::STDIN_FILENO;
 use parse::input::LONGEST;
 use shell::Shell;
 use shell::answer;
 use shell::fresh;
+use text::FAILED;
 use text::flush;
 
 // A shell amid its input: `kept` bytes of an unfinished line stand at the front of the input's buffer.
@@ -15,14 +20,16 @@ struct Session {
     ended: bool,
 }
 
-// A shell that has answered the lines of a block up to `at`.
+// A shell that has answered the lines of a block up to `at`: all whole ones, or up to the line `quit`.
 struct Answered {
     shell: Shell,
     at: usize,
+    quit: bool,
 }
 
-// Answers until the input ends. Nothing says that it ends, so the turns are counted down from a number that no run uses up.
-pub fn serve(buffer: &mut [u64], input: &mut [u8], out: &mut [u8]) {
+// Answers until the input ends, by itself or by `quit`, or an answer cannot be written; says whether all were written. Nothing says that the
+// input ends, so the turns are counted down from a number that no run uses up.
+pub fn serve(terminal: bool, buffer: &mut [u64], input: &mut [u8], out: &mut [u8]) -> bool {
     let mut session = Session {
         shell: fresh(),
         kept: 0,
@@ -30,31 +37,55 @@ pub fn serve(buffer: &mut [u64], input: &mut [u8], out: &mut [u8]) {
     };
     let mut turns = u64::MAX;
     while 0 < turns {
-        session = turn(session, buffer, input, out);
+        session = turn(session, terminal, buffer, input, out);
         if session.ended {
-            return;
+            return session.shell.used != FAILED;
         }
         turns -= 1;
     }
+    true
 }
 
 // Reads a block and writes the answers to its lines.
-fn turn(session: Session, buffer: &mut [u64], input: &mut [u8], out: &mut [u8]) -> Session {
+fn turn(
+    session: Session,
+    terminal: bool,
+    buffer: &mut [u64],
+    input: &mut [u8],
+    out: &mut [u8],
+) -> Session {
     let Session { shell, kept, .. } = session;
+    prompt(terminal, kept);
     let end = read(input, kept);
-    if end <= kept {
-        return Session {
-            shell: last(shell, &input[0..end], buffer, out),
-            kept: 0,
-            ended: true,
-        };
+    if kept < end {
+        return whole_lines(shell, terminal, buffer, input, end, out);
     }
-    let Answered { shell, at } = block(shell, &input[0..end], buffer, out);
-    let kept = keep(input, at, end);
+    leave(terminal);
     Session {
-        shell: written(shell, out),
+        shell: last(shell, terminal, &input[0..end], buffer, out),
+        kept: 0,
+        ended: true,
+    }
+}
+
+// Writes the answers to the whole lines of the input up to `end`, and keeps what is left.
+fn whole_lines(
+    shell: Shell,
+    terminal: bool,
+    buffer: &mut [u64],
+    input: &mut [u8],
+    end: usize,
+    out: &mut [u8],
+) -> Session
+    requires { ⌜ end ≤ length (now input) ⌝ }
+{
+    let Answered { shell, at, quit } = block(shell, terminal, &input[0..end], buffer, out);
+    let kept = keep(input, at, end);
+    let shell = written(shell, out);
+    Session {
+        shell,
         kept,
-        ended: false,
+        ended: quit || shell.used == FAILED,
     }
 }
 
@@ -70,12 +101,20 @@ fn read(input: &mut [u8], kept: usize) -> usize
 }
 
 // Answers the line that no newline ends, if there is one.
-fn last(shell: Shell, line: &[u8], buffer: &mut [u64], out: &mut [u8]) -> Shell {
+fn last(shell: Shell, terminal: bool, line: &[u8], buffer: &mut [u64], out: &mut [u8]) -> Shell {
     if line.len() == 0 {
         return shell;
     }
-    let after = answer(shell, line, buffer, out);
+    let after = hear(shell, kind(terminal, line), line, buffer, out);
     written(after, out)
+}
+
+// Answers a line that is a request.
+fn hear(shell: Shell, kind: Line, line: &[u8], buffer: &mut [u64], out: &mut [u8]) -> Shell {
+    let Line::Request = kind else {
+        return shell;
+    };
+    answer(shell, line, buffer, out)
 }
 
 // All answers so far are written.
@@ -89,18 +128,31 @@ fn written(shell: Shell, out: &[u8]) -> Shell {
 }
 
 // Answers the lines of a block.
-fn block(before: Shell, text: &[u8], buffer: &mut [u64], out: &mut [u8]) -> Answered
+fn block(before: Shell, terminal: bool, text: &[u8], buffer: &mut [u64], out: &mut [u8]) -> Answered
     ensures { λ r. ⌜ r .at ≤ length (now (text .entry)) ⌝ }
 {
     let mut shell = before;
     let mut at: usize = 0;
     let mut end = bytes::scan::find(text, 0, text.len(), b'\n');
     while end < text.len() {
-        shell = answer(shell, &text[at..end], buffer, out);
+        let line = &text[at..end];
         at = end + 1;
+        let kind = kind(terminal, line);
+        if let Line::Quit = kind {
+            return Answered {
+                shell,
+                at,
+                quit: true,
+            };
+        }
+        shell = hear(shell, kind, line, buffer, out);
         end = bytes::scan::find(text, at, text.len(), b'\n');
     }
-    Answered { shell, at }
+    Answered {
+        shell,
+        at,
+        quit: false,
+    }
 }
 
 // Moves the unfinished line, bytes `from` up to `to`, to the front of the buffer, and answers its length there. A line longer than LONGEST

@@ -1,33 +1,48 @@
 // Text for standard output, by way of a buffer that the caller lends: `out`, whose first `at` bytes wait to be written.
 // Each function adds to it and answers how many bytes wait then. What does not fit is written at once, so nothing is cut off.
+// Once a write has failed the answer is FAILED, whatever is added.
 // For the programs that print what the heap says. Below it stands only the kit.
 use libc::STDOUT_FILENO;
 
 pub mod answer;
 pub mod lines;
 
+// Instead of a number of bytes that wait: a write has failed, and nothing is written from then on.
+pub const FAILED: usize = usize::MAX;
+
 // Writes what waits.
 pub fn flush(out: &[u8], at: usize) -> usize {
-    if at <= out.len() {
-        io::write_all(STDOUT_FILENO, &out[0..at]);
+    if out.len() < at {
+        return at;
     }
-    0
+    write_out(&out[0..at])
 }
 
 // A text.
 pub fn text(out: &mut [u8], at: usize, s: &[u8]) -> usize {
-    if at <= out.len() {
-        if s.len() <= out.len() - at {
-            bytes::copy(s, &mut out[at..]);
-            return at + s.len();
-        }
+    if out.len() < at {
+        return at;
     }
-    flush(out, at);
+    if s.len() <= out.len() - at {
+        bytes::copy(s, &mut out[at..]);
+        return at + s.len();
+    }
+    if flush(out, at) != 0 {
+        return FAILED;
+    }
     if s.len() <= out.len() {
         return bytes::copy(s, out);
     }
-    io::write_all(STDOUT_FILENO, s);
-    0
+    write_out(s)
+}
+
+// Nothing waits after a write that succeeds.
+fn write_out(s: &[u8]) -> usize {
+    if io::write_all(STDOUT_FILENO, s) {
+        0
+    } else {
+        FAILED
+    }
 }
 
 // A number in decimal.

@@ -5,10 +5,10 @@ use Rattle.heapsh.proofs.session.block.Statement.{statement}
 use Rattle.heapsh.proofs.session.block.Tie as tie
 
 abbrev Inv-loop : tie.InvT-loop
-Inv-loop text buffer₀ out₀ shell₀ at₀ end₀ buffer out shell at end = (at ≤ end) × (end ≤ length text) × (length buffer ≡ length buffer₀) × (length out ≡ length out₀)
+Inv-loop terminal text buffer₀ out₀ shell₀ at₀ end₀ buffer out shell at end = (at ≤ end) × (end ≤ length text) × (length buffer ≡ length buffer₀) × (length out ≡ length out₀)
 
 abbrev μ-loop : tie.MeasureT-loop
-μ-loop text buffer₀ out₀ shell₀ at₀ end₀ buffer out shell at end = length text - at
+μ-loop terminal text buffer₀ out₀ shell₀ at₀ end₀ buffer out shell at end = length text - at
 
 pub block-spec : {M : Type 1} → statement M
 block-spec =
@@ -21,8 +21,13 @@ block-spec =
     (λ c. search needs)
     (λ c. search needs)
     (λ c. search needs)
+    (λ c. search needs)
     (λ c κs. search needs)
     (λ c. search needs)
+    (λ c. search needs)
+    (λ c. search needs)
+    (λ c. search needs)
+    (λ c κs. search needs)
     (λ c κs. search needs)
     (λ c. search needs)
     (λ c. search needs)

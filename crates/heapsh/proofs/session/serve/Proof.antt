@@ -4,10 +4,10 @@ use Rattle.heapsh.proofs.session.serve.Statement.{statement}
 use Rattle.heapsh.proofs.session.serve.Tie as tie
 
 abbrev Inv-loop : tie.InvT-loop
-Inv-loop buffer₀ input₀ out₀ session₀ turns₀ buffer input out session turns = (length buffer ≡ length buffer₀) × (length input ≡ length input₀) × (length out ≡ length out₀)
+Inv-loop terminal buffer₀ input₀ out₀ session₀ turns₀ buffer input out session turns = (length buffer ≡ length buffer₀) × (length input ≡ length input₀) × (length out ≡ length out₀)
 
 abbrev μ-loop : tie.MeasureT-loop
-μ-loop buffer₀ input₀ out₀ session₀ turns₀ buffer input out session turns = turns
+μ-loop terminal buffer₀ input₀ out₀ session₀ turns₀ buffer input out session turns = turns
 
 pub serve-spec : {M : Type 1} → statement M
 serve-spec =
