@@ -56,7 +56,7 @@ extern "C" {
 #define TINGMUDRA_MAX_COUNT (UINT64_MAX >> 4)
 
 /*
- * What an answer's number says. Those below 0x40000000 are the heap's refusals, by document 01's numbers; a later
+ * What an answer's number says. Those below 0x40000000 are the heap's refusals, by docs/RULES.md's numbers; a later
  * version may have more of them, so a switch needs a default. Those from 0x40000000 on are the boundary's own, and
  * never a refusal of the heap's.
  */

@@ -3,7 +3,7 @@
 use crate::raw::{Answer, BAD_BUFFER, NO};
 use core::fmt;
 
-/// Document 01's refusals with what they carry, and two of the boundary's own. Numbers below 0x4000_0000 are the heap's
+/// The heap's refusals with what they carry, and two of the boundary's own. Numbers below 0x4000_0000 are the heap's
 /// refusals, and those from there on the boundary's.
 ///
 /// A later version of the heap may have more refusals, so a `match` needs an arm for them. One that has no name in this
