@@ -29,7 +29,8 @@ pub const MOST_WORDS: usize = 8192;
 // The word of a Reserved page.
 pub const RESERVED: u64 = 15;
 
-// What is kept from line to line beside the buffers: the record, how many words are lent, and how many bytes of answers wait.
+// What is kept from line to line beside the buffers: the record, how many words are lent, and how many bytes of answers wait, or that a write
+// has failed (`text::FAILED`).
 pub struct Shell {
     pub region: HeapMemoryRegion,
     pub lent: usize,
