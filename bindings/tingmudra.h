@@ -46,7 +46,7 @@
 extern "C" {
 #endif
 
-#define TINGMUDRA_VERSION "0.2.0"
+#define TINGMUDRA_VERSION "0.3.0"
 #define TINGMUDRA_PAGE_SIZE 4096
 #define TINGMUDRA_MAX_PAGES 4096
 #define TINGMUDRA_MAX_ORDER 6            /* orders are 0 to 5 */

@@ -11,15 +11,26 @@ pub use audit::{Audit, ListByList, OneWalk};
 pub use region::{Heap, Refusal, Region, MAX_ORDER, MAX_PAGES, PAGE_SIZE};
 pub use word::{PageInfo, Word, NO_PAGE};
 
-/// The least order whose block holds `size` bytes.
+/// The least order whose block holds `size` bytes: as many binary digits as the page of the last byte has, counted from 0.
 pub fn get_order(size: u64) -> u32 {
-    let pages = size.div_ceil(PAGE_SIZE).max(1);
-    pages.next_power_of_two().trailing_zeros()
+    let last = size.saturating_sub(1) / PAGE_SIZE;
+    u64::BITS - last.leading_zeros()
 }
 
 #[cfg(test)]
 mod tests {
-    use super::get_order;
+    use super::{get_order, PAGE_SIZE};
+
+    #[test]
+    fn order_is_the_least() {
+        let block = |order: u32| u128::from(PAGE_SIZE) << order;
+        let powers = (0..64).map(|digit| 1u64 << digit);
+        for size in powers.flat_map(|power| [power - 1, power, power + 1]).chain([u64::MAX]) {
+            let order = get_order(size);
+            assert!(u128::from(size) <= block(order), "size {size}");
+            assert!(order == 0 || block(order - 1) < size.into(), "size {size}");
+        }
+    }
 
     #[test]
     fn orders() {

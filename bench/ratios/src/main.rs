@@ -3,6 +3,7 @@
 
 mod both;
 mod damage;
+mod orders;
 mod same;
 mod times;
 mod traffic;
@@ -19,12 +20,14 @@ const COMPARED: u64 = 20_000;
 const HELP: &str = "\
 usage: ratios works                          lists the works: a name, a tab and what it is
        ratios times                          holds the heaps against each other, then times each work on all
+       ratios orders                         the same of the order of a size, which needs no heap
        ratios damage STATES                  audits so many states, most of them damaged, by all heaps
        ratios drive HEAP WORK PAGES CALLS    does one work on one heap, for callgrind
 
 HEAP is proved, list-by-list or one-walk: the last two are the plain heap with either of its audits. `times` prints a line
 for each work and size, parted by tabs: WORK, PAGES, then nanoseconds of the least round on these three, and of the middle
-one. `damage` prints a line for each kind of damage: its name, the states with it, and how many of these were refused.";
+one. `orders` prints such a line without WORK and PAGES, for the proved function, plain Rust's as a call, and plain Rust's
+compiled into its caller. `damage` prints a line for each kind of damage: its name, the states with it, and how many of these were refused.";
 
 fn times() -> Result<(), String> {
     for pages in SIZES {
@@ -41,6 +44,13 @@ fn times() -> Result<(), String> {
             println!("{work}\t{pages}\t{a:.1}\t{b:.1}\t{c:.1}\t{d:.1}\t{e:.1}\t{f:.1}");
         }
     }
+    Ok(())
+}
+
+fn orders() -> Result<(), String> {
+    eprintln!("ratios: the order of a size");
+    let [[a, d], [b, e], [c, f]] = orders::measure()?;
+    println!("{a:.3}\t{b:.3}\t{c:.3}\t{d:.3}\t{e:.3}\t{f:.3}");
     Ok(())
 }
 
@@ -63,6 +73,7 @@ fn main() -> ExitCode {
             Ok(())
         }
         ["times"] => times(),
+        ["orders"] => orders(),
         ["damage", states] => match states.parse() {
             Ok(states) => damage::compare(states),
             Err(_) => return usage(2),

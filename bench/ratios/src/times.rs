@@ -1,5 +1,4 @@
-//! Times of a work on every heap, in short rounds that take turns. Each heap's least round counts: what else the machine
-//! does only adds to a round.
+//! Times in short rounds that take turns. The least round counts: what else the machine does only adds to a round.
 
 use crate::both::{Heap, OneWalk, Plain, Proved};
 use crate::works::Stage;
@@ -8,18 +7,17 @@ use std::time::{Duration, Instant};
 const ROUND: Duration = Duration::from_micros(300);
 const ROUNDS: usize = 1000;
 
-/// A work on one heap, and the nanoseconds that it took in each round so far.
-struct Timed<'a, H> {
-    stage: Stage<H>,
-    work: &'a str,
-    /// How often the work fits a round.
+/// What is timed, given how often to do it, and the nanoseconds that once took in each round so far.
+struct Timed<F> {
+    run: F,
+    /// How often it fits a round.
     fit: u64,
     rounds: Vec<f64>,
 }
 
-impl<'a, H: Heap> Timed<'a, H> {
-    fn new(work: &'a str, pages: u64) -> Timed<'a, H> {
-        let mut timed = Timed { stage: Stage::new(work, pages), work, fit: 1, rounds: Vec::with_capacity(ROUNDS) };
+impl<F: FnMut(u64) -> u64> Timed<F> {
+    fn new(run: F) -> Timed<F> {
+        let mut timed = Timed { run, fit: 1, rounds: Vec::with_capacity(ROUNDS) };
         while timed.took() < ROUND {
             timed.fit *= 2;
         }
@@ -28,7 +26,7 @@ impl<'a, H: Heap> Timed<'a, H> {
 
     fn took(&mut self) -> Duration {
         let begin = Instant::now();
-        std::hint::black_box(self.stage.run(self.work, self.fit));
+        std::hint::black_box((self.run)(self.fit));
         begin.elapsed()
     }
 
@@ -44,16 +42,27 @@ impl<'a, H: Heap> Timed<'a, H> {
     }
 }
 
-/// Nanoseconds that a work takes, the least and the middle round, on the proved heap, the plain one that audits list by list,
-/// and the plain one whose audit is one walk.
-pub fn measure(work: &str, pages: u64) -> [[f64; 2]; 3] {
-    let mut proved = Timed::<Proved>::new(work, pages);
-    let mut plain = Timed::<Plain>::new(work, pages);
-    let mut one_walk = Timed::<OneWalk>::new(work, pages);
+/// Nanoseconds of each of three, done so often as they are told: the least and the middle round.
+pub fn in_turns(
+    first: impl FnMut(u64) -> u64,
+    second: impl FnMut(u64) -> u64,
+    third: impl FnMut(u64) -> u64,
+) -> [[f64; 2]; 3] {
+    let (mut first, mut second, mut third) = (Timed::new(first), Timed::new(second), Timed::new(third));
     for _ in 0..ROUNDS {
-        proved.round();
-        plain.round();
-        one_walk.round();
+        first.round();
+        second.round();
+        third.round();
     }
-    [proved.found(), plain.found(), one_walk.found()]
+    [first.found(), second.found(), third.found()]
+}
+
+fn work_on<'a, H: Heap + 'a>(work: &'a str, pages: u64) -> impl FnMut(u64) -> u64 + 'a {
+    let mut stage = Stage::<H>::new(work, pages);
+    move |times| stage.run(work, times)
+}
+
+/// Of a work on the proved heap, the plain one that audits list by list, and the plain one whose audit is one walk.
+pub fn measure(work: &str, pages: u64) -> [[f64; 2]; 3] {
+    in_turns(work_on::<Proved>(work, pages), work_on::<Plain>(work, pages), work_on::<OneWalk>(work, pages))
 }

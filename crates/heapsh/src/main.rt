@@ -15,7 +15,7 @@ fn main() {
     if terminal {
         io::write_all(
             STDERR_FILENO,
-            b"heapsh 0.2.0: a page heap, one request to a line; help lists the requests, quit ends\n",
+            b"heapsh 0.3.0: a page heap, one request to a line; help lists the requests, quit ends\n",
         );
     }
     let mut buffer = [shell::RESERVED; shell::MOST_WORDS];

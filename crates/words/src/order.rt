@@ -6,14 +6,10 @@ ghost use Rattle.words.specs.Order.{orderOf};
 pub fn get_order(size: usize) -> usize
     ensures { λ r. ⌜ r ≡ orderOf size ⌝ }
 {
-    if 0x8000_0000_0000_0000 < size {
-        return 52;
+    if size == 0 {
+        return 0;
     }
-    let mut order: usize = 0;
-    let mut bytes: usize = 4096;
-    while bytes < size {
-        bytes = bytes * 2;
-        order += 1;
-    }
-    order
+    // the page of the last byte, counted from 0: a block of 2^o pages holds it where it has at most o binary digits
+    let last = (size - 1) / 4096;
+    (64 - usize::leading_zeros(last)) as usize
 }
