@@ -1,13 +1,9 @@
 -- `orderOf` is the least order whose block holds the size, and there is one such order.
-use Rattle.common.specs.Kit.{ℕ, zero, suc, _+_, _-_, _*_, _/_, _^_, _≤_, _<_, _≡_, subst, leb, ltb, pow-mono, add-zero, pow-suc, add-one, arith, ltb-true, ltb-false, leb-true, leb-false}
+use Rattle.common.specs.Kit.{ℕ, zero, suc, _+_, _-_, _*_, _/_, _^_, _≤_, _<_, _≡_, subst, leb, ltb, pow-mono, add-zero, pow-suc, arith, ltb-true, ltb-false, leb-true, leb-false}
 use lib.Count.{leadingZeros, leading-length}
 use borrow.Author.Count.{below-more}
 use Rattle.common.proofs.Tests.{by-test}
 use Rattle.words.specs.Order.{blockBytes, LeastOrder, orderFrom, orderOf}
-
--- twice the bytes, one order up
-pub block-more : (o : ℕ) → blockBytes (o + 1) ≡ blockBytes o * 2
-block-more o = rw (add-one o, pow-suc 2 o) (omega arith)
 
 pub block-mono : {a b : ℕ} → a ≤ b → blockBytes a ≤ blockBytes b
 block-mono {a} {b} h = omega (arith, pow-mono h)
@@ -40,14 +36,14 @@ order-top s h b =
     least-unique s _ 52 (order-least s b) (record { holds = b; least = λ k l. omega (arith, block-mono {a = k} {b = 51} (omega arith)) })
 
 -- The least order is the length in binary digits of the page of the last byte, counted from 0.
-length-least : (s m : ℕ) → 0 < s → (s - 1) / 4096 < 2 ^ m → 2 ^ m ≤ 2 * ((s - 1) / 4096) + 1 → LeastOrder s m
-length-least s m p h l =
+length-least : (s q m : ℕ) → 0 < s → q ≡ (s - 1) / 4096 → q < 2 ^ m → 2 ^ m ≤ 2 * q + 1 → LeastOrder s m
+length-least s q m p e h l =
     record { holds = omega arith; least = λ k b. omega (arith, pow-suc 2 k, pow-mono {i = suc k} {j = m} b) }
 
--- so it is what the leading zeros of that page leave of 64
-pub order-zeros : (s : ℕ) → 0 < s → s < 2 ^ 64 → 64 - leadingZeros 64 ((s - 1) / 4096) ≡ orderOf s
-order-zeros s p b =
-    let l = leading-length 64 ((s - 1) / 4096) (omega arith) in
+-- so it is what the leading zeros of that page leave of any width that holds it
+pub order-zeros : (w s q : ℕ) → 0 < s → s ≤ 2 ^ 64 → q ≡ (s - 1) / 4096 → q < 2 ^ w → w - leadingZeros w q ≡ orderOf s
+order-zeros w s q p b e h =
+    let l = leading-length w q h in
     least-unique s _ _
-    (subst (λ (m : ℕ). LeastOrder s m) (omega (arith, l .1)) (length-least s (l .0) p (l .2) (l .3)))
-    (order-least s (omega arith))
+    (subst (λ (m : ℕ). LeastOrder s m) (omega (arith, l .1)) (length-least s q (l .0) p e (l .2) (l .3)))
+    (order-least s b)

@@ -11,7 +11,7 @@ unfolding orderFrom
 returns c = rw (c .if1 .taken) refl
 
 returns-2 : tie.Need-returns-2
-returns-2 c = order-zeros (c .before .args .size) (omega arith) (omega arith)
+returns-2 c = order-zeros _ (c .before .args .size) _ (omega arith) (omega arith) (omega arith) (omega arith)
 
 pub get-order-spec : {M : Type 1} → statement M
 get-order-spec = tie.close (tie.spec returns (λ c. search needs) (λ c. leading-le 64 _) (λ c. search needs) returns-2)
