@@ -2,6 +2,8 @@
 // of a caller but what no callee can see: that its buffers are as long as it says and do not overlap. A record of another length is refused
 // with a number of our own, `BAD_BUFFER`.
 // For monitors that link the static library; bindings/ has the header and the Rust module over it. Below it stands `heap`.
+#![tactic(auto)]
+
 pub mod answer;
 pub mod reads;
 mod record;

@@ -1,5 +1,7 @@
 // The audit: whether a region's record and words are sound (S1 to S13), for any record and any words, in time that grows with the pages. For the
 // public calls, which audit first. Below it stand `region`, for the record, and `pages`, for the words.
+#![tactic(auto)]
+
 ghost use Rattle.std.specs.Prelude.{◌≡◌};
 ghost use Rattle.audit.specs.Check.{every, keeps, numbers, sound_b};
 ghost use Rattle.audit.specs.Counts.{InLimits};

@@ -7,7 +7,7 @@ use Rattle.buddy.specs.Heap.{free, used, Tag, tag, NoBuddies, Heap, Core, SoundH
 use Rattle.buddy.specs.Steps.{paint, push, take, halve, merge}
 use Rattle.buddy.specs.Rules.{free_at}
 use Rattle.buddy.proofs.RunLaws.{cell-suc, cell-first, head_first, buddy-is}
-use Rattle.buddy.proofs.Tags.{order-of, kind-of, tag-path, used≢free, is_free}
+use Rattle.buddy.proofs.Tags.{order-of, kind-of, tag-path, used≢free, is_free_lem}
 use Rattle.buddy.proofs.Paint.{paint-in, paint-out, BlocksOut, BlockOut, FreeBlock, free-block}
 use Rattle.buddy.proofs.Steps.{push-core, take-core, halve-core, merge-core}
 
@@ -81,7 +81,7 @@ module _ (M : ℕ → Bool) (h : Heap) (o p : ℕ) where
   free_at-true e =
       let a = T_and (M p) (eqb (h.at p).order o && is_free (h.at p).kind) (rw e tt) in
       let b = T_and (eqb (h.at p).order o) _ a.1 in
-      (a.0, tag-path (h.at p) (eqb→eq _ _ b.0) (is_free _ b.1))
+      (a.0, tag-path (h.at p) (eqb→eq _ _ b.0) (is_free_lem _ b.1))
 
   pub free_at-false : free_at M h o p ≡ false → T (M p) → h.at p ≢ tag o free
   unfolding free_at

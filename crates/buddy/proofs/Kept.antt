@@ -57,7 +57,7 @@ module _ (k : Kind) (o p : ℕ) (es : List Event) where
 
   took-as : (q : ℕ) → q ≢ p → (i : Kind) → As es q i → As (took k o p ∷ es) q i
   unfolding granted_as puts gets
-  took-as q e = as_same es _ q (rw (ne_eqb p q (λ x. e (sym x)))) (rw (ne_eqb p q (λ x. e (sym x)))) (rw (ne_eqb p q (λ x. e (sym x))))
+  took-as q e = as_same es (took k o p ∷ es) q (rw (ne_eqb p q (λ x. e (sym x)))) (rw (ne_eqb p q (λ x. e (sym x)))) (rw (ne_eqb p q (λ x. e (sym x))))
 
 module _ {M : ℕ → Bool} {n : ℕ} {m : Moment} {x : Request} {o : ℕ} {k : Kind} {g : Heap} {c : ℕ} (kept : Kept M n m) (asks : Asks x o k)
     (r : Granted M n m.heap g o c k) where

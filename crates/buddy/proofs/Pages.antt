@@ -6,7 +6,7 @@ use Rattle.buddy.specs.Heap.{Kind, free, used, slab, file, Tag, tag, Fits, Block
 use Rattle.buddy.specs.Steps.{label}
 use Rattle.buddy.specs.Rules.{Grant, refused, granted, allocate, free_block, out_at, free_page, grant_as, recount}
 use Rattle.buddy.proofs.RunLaws.{cell-zero, start-le, lt-end}
-use Rattle.buddy.proofs.Tags.{order-of, kind-of, tag-path, used≢free, is_free}
+use Rattle.buddy.proofs.Tags.{order-of, kind-of, tag-path, used≢free, is_free_lem}
 use Rattle.buddy.proofs.Paint.{BlockOut}
 use Rattle.buddy.proofs.Free.{Freed, free-result}
 use Rattle.buddy.proofs.Label.{label-on, label-off, label-sound, label-order, label-busy}
@@ -61,7 +61,7 @@ module _ (M : ℕ → Bool) (h : Heap) (p : ℕ) where
   pub head-out_at : {o : ℕ} → OutHead M h.at o p → out_at M h p ≡ true
   unfolding out_at
   head-out_at f = rw (T_true (M p) f.managed, f.order, eq-eqb _ p f.head)
-      (by-test (is_free (h.at p).kind) (λ e. absurd (f.busy (is_free _ (rw e tt)))) (λ e. rw e))
+      (by-test (is_free (h.at p).kind) (λ e. absurd (f.busy (is_free_lem _ (rw e tt)))) (λ e. rw e))
 
 -- rule 5 at a page that heads a block out
 pub free-page : {M : ℕ → Bool} {n : ℕ} {h : Heap} {o p : ℕ} → ((q : ℕ) → T (M q) → q < n) → SoundHeap M n h → OutHead M h.at o p

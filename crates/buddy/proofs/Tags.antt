@@ -14,8 +14,8 @@ tag-path v e f = λ i. record { order = e i; kind = f i }
 pub used≢free : used ≢ free
 used≢free e = let z : ◌≡◌ {A = ℕ} 0 1 = cc in omega arith
 
-pub is_free : (k : Kind) → T (is_free k) → k ≡ free
-is_free free _ = refl
-is_free used t = absurd t
-is_free (slab i) t = absurd t
-is_free (file n) t = absurd t
+pub is_free_lem : (k : Kind) → T (is_free k) → k ≡ free
+is_free_lem free _ = refl
+is_free_lem used t = absurd t
+is_free_lem (slab i) t = absurd t
+is_free_lem (file n) t = absurd t

@@ -1,5 +1,7 @@
 // Granting a block: the search for a list, the split down to the order asked for, the grant (C40, C41).
 // For the public calls that grant. Below it stand the steps of `region`.
+#![tactic(auto)]
+
 ghost use Rattle.std.specs.Prelude.{◌≡◌, ◌-◌, ◌≤◌};
 ghost use Rattle.region.specs.State.{st, Gives};
 ghost use Rattle.region.specs.Steps.{lowest_from, SplitDownOk, split_down, RefillOk, refill, GrantOk, grant_page, grant};

@@ -1,5 +1,7 @@
 // The public heap: every call (docs/RULES.md) on any record and any words, refused by number where it must be. Nothing is demanded of a caller.
 // For monitors that link it and tools that run it. Below it stand the audit, set-up, and the calls on a sound state.
+#![tactic(auto)]
+
 use sound_calls::Done;
 
 pub mod reads;

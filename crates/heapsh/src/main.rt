@@ -1,6 +1,8 @@
 // heapsh: the heap at a shell. It reads requests from standard input, one to a line, and answers each on standard output (README.md, "The
 // shell"); `help` lists the requests. Above `shell`, which answers a line; here are the input's blocks, and what a terminal has beside the
 // answers.
+#![tactic(auto)]
+
 mod session;
 mod terminal;
 

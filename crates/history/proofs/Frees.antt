@@ -10,7 +10,7 @@ use Rattle.buddy.specs.Heap.{Kind, free, Tag, Listed, heads, is_free}
 use Rattle.buddy.specs.History.{Moment, still_out}
 use Rattle.buddy.specs.Demand.{pages_in, Clear}
 use Rattle.buddy.proofs.RunLaws.{cell-zero}
-use Rattle.buddy.proofs.Tags.{order-of, tag-path, is_free}
+use Rattle.buddy.proofs.Tags.{order-of, tag-path, is_free_lem}
 use Rattle.buddy.proofs.Blocks.{heads-yes}
 use Rattle.buddy.proofs.Totals.{totals}
 use Rattle.buddy.proofs.Kept.{Kept}
@@ -74,7 +74,7 @@ module _ {M : ℕ → Bool} {n : ℕ} {m : Moment} (bound : (p : ℕ) → T (M p
       (λ p _ x.
       let f = heads-at frees at o p x in
       let a = T_and (M p) _ f.0 in
-      k.full p (record { managed = a.0; is = tag-path (at p) f.1 (is_free _ a.1); head = f.2 }))
+      k.full p (record { managed = a.0; is = tag-path (at p) f.1 (is_free_lem _ a.1); head = f.2 }))
     where
       k : Listed M at o (m.heap.list o)
       k = kept.sound.core.listed o l
@@ -121,6 +121,6 @@ module _ {M : ℕ → Bool} {n : ℕ} {m : Moment} (bound : (p : ℕ) → T (M p
   pub page-clear : (p : ℕ) → T (frees p) ↔ Clear M m 0 p
   page-clear p = (
     λ t. let a = T_and (M p) _ t in
-        free-clear bound kept 0 p (λ q e. let same : q ≡ p = sym (cell-zero q) ∙ e in rw same (a.0, is_free _ a.1)),
+        free-clear bound kept 0 p (λ q e. let same : q ≡ p = sym (cell-zero q) ∙ e in rw same (a.0, is_free_lem _ a.1)),
     λ c. let a = clear-free bound kept 0 p c p (cell-zero p) in and_T (M p) _ a.0 (rw a.1 tt),
   )

@@ -1,6 +1,8 @@
 // The three calls that a kernel makes most, with the record lent and changed in place (each copies it out, calls the function by value and stores it
 // back). For who holds the record behind a reference.
 // Below it stands `heap`, whose functions take the record by value and hand it back beside the answer.
+#![tactic(auto)]
+
 ghost use Rattle.std.specs.Prelude.{◌≡◌};
 ghost use Rattle.buddy.specs.Request.{for_block, on, to_free, to_put};
 ghost use Rattle.sound_calls.specs.Answer.{result_of, done, grant, count};

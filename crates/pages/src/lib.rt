@@ -1,5 +1,7 @@
 // The words of a region's pages, lent as u64: one word read or written, a row of them, a block's.
 // For the steps on lists and blocks above it. It knows no record; below it stands `words`.
+#![tactic(auto)]
+
 ghost use Rattle.std.specs.Prelude.{◌≡◌, ◌+◌, ◌<◌, ◌≤◌, ◌^◌, length, set};
 ghost use Rattle.words.specs.Word.{mem_of};
 ghost use Rattle.buddy.specs.Heap.{good_item};

@@ -1,5 +1,7 @@
 // Returning a block: the buddy, the merge, the recursion up the orders (C50).
 // For the public calls that free and put, and for set-up. Below it stand the steps of `region`.
+#![tactic(auto)]
+
 ghost use Rattle.std.specs.Prelude.{◌≡◌, ◌-◌};
 ghost use Rattle.region.specs.State.{st, Gives};
 ghost use Rattle.region.specs.Steps.{NeighborOk, neighbor, TryOk, try_page, try_join, FreeOk, free_from};

@@ -1,4 +1,6 @@
 // The customer's test program: sets region R up in a part of a buffer of Reserved words, and prints the memory report.
+#![tactic(auto)]
+
 use heap::reads::memory_info;
 use heap::start::root_mem_init;
 use text::lines::report_lines;

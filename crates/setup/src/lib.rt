@@ -1,5 +1,7 @@
 // Set-up of a region on lent words: boot and metadata words, then every managed page freed (C70, C71).
 // For the public set-up call, which refuses bad numbers first. Below it stand the steps of `region` and the free of `release`.
+#![tactic(auto)]
+
 ghost use Rattle.std.specs.Prelude.{◌≡◌, length};
 ghost use Rattle.region.specs.Layout.{Limits};
 ghost use Rattle.region.specs.State.{st};

@@ -2,6 +2,8 @@
 // For the program `heapsh`, which reads lines and lends the buffers. Below it stand `parse`, which takes a line apart, `answers`, which
 // makes the text, and the calls of `heap`. What a line leaves stands in specs/Shell.antt; of `used` and of what is written to `out` nothing
 // is promised.
+#![tactic(auto)]
+
 ghost use Rattle.std.specs.Prelude.{◌≡◌, ◌++◌, ◌≤◌, min, length, drop, replicate};
 ghost use Rattle.heap.specs.Promise.{empty_region};
 ghost use Rattle.shell.specs.Shell.{held, settled, answered};

@@ -1,5 +1,7 @@
 // The calls on a sound state, each by the table's checks and then the rule: what the public calls do once the audit has passed.
 // For the crate `heap`, and for whatever audits once and then calls often. Below it stand `grant` and `release`.
+#![tactic(auto)]
+
 ghost use Rattle.std.specs.Prelude.{◌≡◌, [], ◌∷◌};
 ghost use Rattle.sound_calls.specs.Answer.{no, refusal, done, grant, count, layout};
 

@@ -2,6 +2,8 @@
 // Each function adds to it and answers how many bytes wait then. What does not fit is written at once, so nothing is cut off.
 // Once a write has failed the answer is FAILED, whatever is added.
 // For the programs that print what the heap says. Below it stands only the kit.
+#![tactic(auto)]
+
 use libc::STDOUT_FILENO;
 
 pub mod answer;

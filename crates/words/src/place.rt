@@ -5,15 +5,15 @@ ghost use Rattle.words.specs.Place.{page_at, address_at};
 pub const PAGE_SIZE: u64 = 4096;
 
 // The number of a page in its region, from 0.
-#[derive(Drop)]
+#[derive(Clone, Copy)]
 pub struct PageNumber(pub u64);
 
 // An address, in bytes.
-#[derive(Drop)]
+#[derive(Clone, Copy)]
 pub struct VirtAddr(pub u64);
 
 // Where an address lies in a region: at the first byte of a page, at another byte of one, or in none.
-#[derive(Drop)]
+#[derive(Clone, Copy)]
 pub enum PageAt {
     Start(PageNumber),
     Within(PageNumber),
@@ -21,7 +21,7 @@ pub enum PageAt {
 }
 
 // Where a page starts.
-#[derive(Drop)]
+#[derive(Clone, Copy)]
 pub enum AddressAt {
     At(VirtAddr),
     Outside,
@@ -29,6 +29,7 @@ pub enum AddressAt {
 
 impl VirtAddr {
     // The page of a region of `pages` pages from `start` on that holds this address.
+    #[tactic(auto, unfolding(crate::specs::Place::page_at))]
     pub fn get_pfn(self, start: VirtAddr, pages: u64) -> PageAt
         ensures { result ≡ page_at start.0 pages self.0 }
     {
@@ -50,6 +51,7 @@ impl VirtAddr {
 
 impl PageNumber {
     // The address of this page in a region of `pages` pages from `start` on.
+    #[tactic(auto, unfolding(crate::specs::Place::address_at))]
     pub fn virt_addr(self, start: VirtAddr, pages: u64) -> AddressAt
         ensures { result ≡ address_at start.0 pages self.0 }
     {

@@ -7,7 +7,7 @@ use crate::word::{
     ReservedInfo, SlabPageInfo,
 };
 
-#[derive(Drop)]
+#[derive(Clone, Copy)]
 pub struct Fields {
     pub kind: u64,
     pub field: u64,
@@ -34,6 +34,7 @@ fn of(kind: u64, field: u64, next: u64) -> Fields
 }
 
 // The word of raw fields, by the type's number. A field that the type does not have must be 0.
+#[tactic(auto, unfolding(crate::specs::RawFields::encode_fields))]
 pub fn encode_fields(kind: u64, field: u64, next: u64) -> Encoded
     ensures { result ≡ encode_fields kind field next }
 {
@@ -55,6 +56,7 @@ pub fn encode_fields(kind: u64, field: u64, next: u64) -> Encoded
     }
 }
 
+#[tactic(auto, unfolding(crate::specs::RawFields::encode_fields))]
 fn reserved(field: u64) -> Encoded
     ensures { result ≡ encode_fields 15 field 0 }
 {

@@ -8,37 +8,37 @@ pub const NO_PAGE: usize = 0xffff_ffff_ffff_ffff;
 // Orders are below this.
 pub const MAX_ORDER: usize = 6;
 
-#[derive(Drop)]
+#[derive(Clone, Copy)]
 pub struct FreeInfo {
     pub next_page: usize,
     pub order: usize,
 }
 
-#[derive(Drop)]
+#[derive(Clone, Copy)]
 pub struct AllocatedInfo {
     pub order: usize,
 }
 
-#[derive(Drop)]
+#[derive(Clone, Copy)]
 pub struct SlabPageInfo {
     pub item_size: u64,
 }
 
-#[derive(Drop)]
+#[derive(Clone, Copy)]
 pub struct CompoundInfo {
     pub order: usize,
 }
 
-#[derive(Drop)]
+#[derive(Clone, Copy)]
 pub struct FileInfo {
     pub ref_count: u64,
 }
 
-#[derive(Drop)]
+#[derive(Clone, Copy)]
 pub struct ReservedInfo;
 
 // What a page is. The fields are raw: not every value of them has a word.
-#[derive(Drop)]
+#[derive(Clone, Copy)]
 pub enum PageInfo {
     Free(FreeInfo),
     Allocated(AllocatedInfo),
@@ -49,20 +49,20 @@ pub enum PageInfo {
 }
 
 // What a word says, if it fits the table.
-#[derive(Drop)]
+#[derive(Clone, Copy)]
 pub enum Decoded {
     Info(PageInfo),
     No,
 }
 
 // The word of some fields, if they have one.
-#[derive(Drop)]
+#[derive(Clone, Copy)]
 pub enum Encoded {
     Word(PageStorageType),
     No,
 }
 
-#[derive(Drop)]
+#[derive(Clone, Copy)]
 pub struct PageStorageType(pub u64);
 
 impl PageStorageType {
@@ -86,6 +86,7 @@ impl PageStorageType {
     const NO_NEXT: u64 = 0xffff_ffff_ffff_ffff >> Self::NEXT_SHIFT;
 
     // What a word says. A word that does not fit the table is refused: by its type, then its order, then its spare bits.
+    #[tactic(auto, unfolding(crate::specs::Word::decode_of))]
     pub fn decode(word: PageStorageType) -> Decoded
         ensures { result ≡ decode_of word.0 }
     {
@@ -116,6 +117,7 @@ impl PageStorageType {
     }
 
     // The word of raw fields; "no" exactly when no word has them.
+    #[tactic(auto, unfolding(crate::specs::Word::encode_of))]
     pub fn encode(info: PageInfo) -> Encoded
         ensures { result ≡ encode_of info }
     {
@@ -127,6 +129,7 @@ impl PageStorageType {
     }
 
     // The word of fields that the caller knows to have one; of any others the word of a Reserved page.
+    #[tactic(auto, unfolding(crate::specs::Word::mem_of))]
     pub fn to_mem(info: PageInfo) -> PageStorageType
         ensures { result.0 ≡ mem_of info }
     {
@@ -139,6 +142,7 @@ impl PageStorageType {
 }
 
 // The answer of a row of the table: its order is refused first, then its spare bits.
+#[tactic(auto, unfolding(crate::specs::Word::row))]
 fn row(info: PageInfo, order: usize, spare: u64) -> Decoded
     ensures { result ≡ row info order spare }
 {

@@ -1,5 +1,5 @@
 -- `audit::audit` meets its contract: the three groups of lines are all those of `sound_b`.
-use Rattle.common.specs.Kit.{needs}
+use Rattle.common.specs.Kit.{rules}
 use Rattle.audit.proofs.Loops.{failed, passed}
 use Rattle.audit.proofs.Order.{sound-order}
 use Rattle.audit.proofs.Sound.{decide-limits}
@@ -31,7 +31,7 @@ pub audit-spec : {M : Type 1} → statement M
 audit-spec =
     tie.close
     (tie.spec
-    (λ c κs. search needs)
+    (λ c κs. search rules)
     returns
     marks-good-requires
     returns-2

@@ -1,5 +1,5 @@
 -- `audit::marks_good` meets its contract: the tests are those of its two lines.
-use Rattle.common.specs.Kit.{and-true, needs}
+use Rattle.common.specs.Kit.{and-true, rules}
 use Rattle.audit.specs.Check.{keeps}
 use Rattle.audit.proofs.Limit.{limits-few}
 use Rattle.audit.proofs.Loops.{failed, passed}
@@ -28,7 +28,7 @@ marks-good-spec =
     tie.close
     (tie.spec
     alloc-pages-requires
-    (λ c κs. search needs)
+    (λ c κs. search rules)
     returns
-    (λ c κs. search needs)
+    (λ c κs. search rules)
     returns-2)

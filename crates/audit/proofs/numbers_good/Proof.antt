@@ -1,5 +1,5 @@
 -- `audit::numbers_good` meets its contract: the tests are those of the six lines.
-use Rattle.common.specs.Kit.{◌+◌, ◌-◌, ◌*◌, ◌^◌, ◌≤◌, ◌<◌, ◌≡◌, sym, ◌∙◌, true, ◌&&◌, and-true, leb, length, arith, needs, eq-eqb, ne_eqb, le-leb, lt-leb}
+use Rattle.common.specs.Kit.{◌+◌, ◌-◌, ◌*◌, ◌^◌, ◌≤◌, ◌<◌, ◌≡◌, sym, ◌∙◌, true, ◌&&◌, and-true, leb, length, arith, rules, eq-eqb, ne_eqb, le-leb, lt-leb}
 use Rattle.region.specs.Layout.{max_pages}
 use Rattle.region.proofs.Limits.{good-small}
 use Rattle.audit.specs.Check.{keeps}
@@ -82,7 +82,7 @@ pub numbers-good-spec : {M : Type 1} → statement M
 numbers-good-spec =
     tie.close
     (tie.spec
-    (λ c κs. search needs)
+    (λ c κs. search rules)
     returns
     returns-2
     returns-3

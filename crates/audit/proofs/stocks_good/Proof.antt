@@ -1,5 +1,5 @@
 -- `audit::stocks_good` meets its contract: the tests are those of its five lines, by what the walk found.
-use Rattle.common.specs.Kit.{sym, ◌∙◌, needs, not-true, not-false}
+use Rattle.common.specs.Kit.{sym, ◌∙◌, rules, not-true, not-false}
 use Rattle.region.specs.Layout.{end_of, managed}
 use Rattle.audit.specs.Survey.{Surveyed}
 use Rattle.audit.proofs.Limit.{limits-few, limits-within}
@@ -52,9 +52,9 @@ stocks-good-spec =
     alloc-pages-requires
     survey-requires
     returns
-    (λ c κs. search needs)
+    (λ c κs. search rules)
     returns-2
-    (λ c κs. search needs)
+    (λ c κs. search rules)
     returns-3
-    (λ c κs. search needs)
+    (λ c κs. search rules)
     returns-4)

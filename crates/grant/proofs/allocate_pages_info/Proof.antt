@@ -1,5 +1,5 @@
 -- `grant::allocate_pages_info` meets its contract: the page that is taken picks the case of `grant`.
-use Rattle.common.specs.Kit.{refl, sym, ◌∙◌, needs}
+use Rattle.common.specs.Kit.{refl, sym, ◌∙◌, rules}
 use Rattle.region.specs.Steps.{grant_page, grant}
 use Rattle.grant.proofs.Steps.{taken-inside}
 use Rattle.grant.proofs.allocate_pages_info.Statement.{statement}
@@ -35,12 +35,12 @@ pub allocate-pages-info-spec : {M : Type 1} → statement M
 allocate-pages-info-spec =
     tie.close
     (tie.spec
-    (λ c κs. search needs)
+    (λ c κs. search rules)
     get-next-page-requires
-    (λ c. search needs)
+    (λ c. search rules)
     write-page-info-requires
-    (λ c. search needs)
-    (λ c. search needs)
+    (λ c. search rules)
+    (λ c. search rules)
     returns
-    (λ c. search needs)
+    (λ c. search rules)
     returns-2)

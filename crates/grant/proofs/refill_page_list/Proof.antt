@@ -1,5 +1,5 @@
 -- `grant::refill_page_list` meets its contract: its own list, and what `find_order` finds above it, pick the case of `refill`.
-use Rattle.common.specs.Kit.{◌+◌, ◌-◌, ◌≡◌, sym, ◌∙◌, arith, needs, eq-eqb, ne_eqb}
+use Rattle.common.specs.Kit.{◌+◌, ◌-◌, ◌≡◌, sym, ◌∙◌, arith, rules, eq-eqb, ne_eqb}
 use Rattle.region.specs.Steps.{lowest_from, split_down, refill}
 use Rattle.grant.proofs.Steps.{lowest_step}
 use Rattle.grant.proofs.refill_page_list.Statement.{statement}
@@ -40,14 +40,14 @@ pub refill-page-list-spec : {M : Type 1} → statement M
 refill-page-list-spec =
     tie.close
     (tie.spec
-    (λ c. search needs)
-    (λ c. search needs)
+    (λ c. search rules)
+    (λ c. search rules)
     returns
-    (λ c. search needs)
-    (λ c κs. search needs)
-    (λ c. search needs)
-    (λ c. search needs)
+    (λ c. search rules)
+    (λ c κs. search rules)
+    (λ c. search rules)
+    (λ c. search rules)
     returns-2
     split-down-requires
-    (λ c. search needs)
+    (λ c. search rules)
     returns-3)

@@ -1,6 +1,6 @@
 -- `grant::split_down` meets its contract. The loop's invariant: what is left to split, from `ord` on, gives the state that is asked for, and is
 -- safe. The measure is the orders left.
-use Rattle.common.specs.Kit.{◌-◌, ◌≡◌, refl, sym, ◌∙◌, length, arith, needs}
+use Rattle.common.specs.Kit.{◌-◌, ◌≡◌, refl, sym, ◌∙◌, length, arith, rules}
 use Rattle.region.specs.State.{st}
 use Rattle.region.specs.Steps.{split_down, DownOk}
 use Rattle.grant.proofs.Steps.{down_step, ok_step}
@@ -23,13 +23,13 @@ get-next-page-requires : tie.Need-get-next-page-requires invariant-loop decrease
 get-next-page-requires c κs = (ok_step _ _ _ c.before.loop-test.true c.before.before.loop.invariant.1.0).0
 
 enum-known-head : tie.Need-enum-known-head invariant-loop decreases-loop
-enum-known-head c = search needs
+enum-known-head c = search rules
 
 enum_told : tie.Need-enum-told invariant-loop decreases-loop
-enum_told c = search needs
+enum_told c = search rules
 
 same_length : tie.Need-same-length invariant-loop decreases-loop
-same_length c = search needs
+same_length c = search rules
 
 returns : tie.Need-returns invariant-loop decreases-loop
 returns c =
@@ -48,10 +48,10 @@ split-page-requires c κs =
     rw got.get-next-page.ensures.leaves ((ok_step _ _ _ turn.loop-test.true turn.before.loop.invariant.1.0).1 _ some).0
 
 sub-ord : tie.Need-overflow-sub-ord invariant-loop decreases-loop
-sub-ord c = search needs
+sub-ord c = search rules
 
 loop-less : tie.Need-loop-smaller invariant-loop decreases-loop
-loop-less c = search needs
+loop-less c = search rules
 
 loop-again : tie.Need-loop-preserved invariant-loop decreases-loop
 loop-again c =
@@ -66,7 +66,7 @@ loop-again c =
     )
 
 same-length-2 : tie.Need-same-length-2 invariant-loop decreases-loop
-same-length-2 c = search needs
+same-length-2 c = search rules
 
 returns-2 : tie.Need-returns-2 invariant-loop decreases-loop
 unfolding split_down

@@ -1,5 +1,5 @@
 -- `pages::fill_words` meets its contract. The loop's invariant: the words are filled up to `i`. The measure is what is left of `count`.
-use Rattle.common.specs.Kit.{◌-◌, ◌≤◌, ◌≡◌, refl, ◌∙◌, length, length-set, arith, needs}
+use Rattle.common.specs.Kit.{◌-◌, ◌≤◌, ◌≡◌, refl, ◌∙◌, length, length-set, arith, rules}
 use Rattle.pages.specs.Fill.{fill}
 use Rattle.pages.proofs.Fill.{fill_none, fill_more}
 use Rattle.pages.proofs.fill_words.Statement.{statement}
@@ -13,25 +13,25 @@ abbrev decreases-loop : tie.decreases-loop
 decreases-loop words₀ from count word i₀ words i = count - i
 
 to-mem-requires : tie.Need-to-mem-requires invariant-loop decreases-loop
-to-mem-requires c κs = search needs
+to-mem-requires c κs = search rules
 
 loop-holds : tie.Need-loop-init invariant-loop decreases-loop
-loop-holds c = (search needs, (refl, fill_none _ _ _))
+loop-holds c = (search rules, (refl, fill_none _ _ _))
 
 add_words : tie.Need-overflow-add-words invariant-loop decreases-loop
-add_words c = search needs
+add_words c = search rules
 
 mul_words : tie.Need-overflow-mul-words invariant-loop decreases-loop
-mul_words c = search needs
+mul_words c = search rules
 
 slice-write-words : tie.Need-slice-write-words invariant-loop decreases-loop
-slice-write-words c = search needs
+slice-write-words c = search rules
 
 add-i : tie.Need-overflow-add-i invariant-loop decreases-loop
-add-i c = search needs
+add-i c = search rules
 
 loop-less : tie.Need-loop-smaller invariant-loop decreases-loop
-loop-less c = search needs
+loop-less c = search rules
 
 loop-again : tie.Need-loop-preserved invariant-loop decreases-loop
 loop-again c =
@@ -39,7 +39,7 @@ loop-again c =
     (omega arith, (length-set l.words _ _ ∙ l.invariant.1.0, rw l.invariant.1.1 (fill_more _ _ _ _)))
 
 same_length : tie.Need-same-length invariant-loop decreases-loop
-same_length c = search needs
+same_length c = search rules
 
 returns : tie.Need-returns invariant-loop decreases-loop
 returns c =

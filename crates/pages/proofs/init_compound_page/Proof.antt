@@ -1,5 +1,5 @@
 -- `pages::init_compound_page` meets its contract, by what its two callees ensure.
-use Rattle.common.specs.Kit.{pow_pos, arith, needs}
+use Rattle.common.specs.Kit.{pow_pos, arith, rules}
 use Rattle.pages.specs.Fill.{init}
 use Rattle.pages.proofs.init_compound_page.Statement.{statement}
 use Rattle.pages.proofs.init_compound_page.Tie as tie
@@ -13,4 +13,4 @@ returns c = cc
 
 pub init-compound-page-spec : {M : Type 1} → statement M
 init-compound-page-spec =
-    tie.close (tie.spec write-page-info-requires (λ c κs. search needs) (λ c. search needs) returns)
+    tie.close (tie.spec write-page-info-requires (λ c κs. search rules) (λ c. search rules) returns)

@@ -1,5 +1,5 @@
 -- `pages::mark_compound_page` meets its contract: a fill of the words after the block's first.
-use Rattle.common.specs.Kit.{pow_pos, arith, needs}
+use Rattle.common.specs.Kit.{pow_pos, arith, rules}
 use Rattle.pages.specs.Fill.{mark}
 use Rattle.pages.proofs.mark_compound_page.Statement.{statement}
 use Rattle.pages.proofs.mark_compound_page.Tie as tie
@@ -19,4 +19,4 @@ returns c =
 pub mark-compound-page-spec : {M : Type 1} → statement M
 mark-compound-page-spec =
     tie.close
-    (tie.spec (λ c κs. search needs) sub-rest (λ c. search needs) fill-words-requires (λ c. search needs) returns)
+    (tie.spec (λ c κs. search rules) sub-rest (λ c. search rules) fill-words-requires (λ c. search rules) returns)

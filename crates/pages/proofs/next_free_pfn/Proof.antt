@@ -1,5 +1,5 @@
 -- `pages::next_free_pfn` meets its contract: what the word says, taken through the two patterns.
-use Rattle.common.specs.Kit.{sym, ap, ◌∙◌, needs}
+use Rattle.common.specs.Kit.{sym, ap, ◌∙◌, rules}
 use Rattle.pages.specs.Said.{next_in}
 use Rattle.pages.proofs.Patterns.{through, not_free}
 use Rattle.pages.proofs.next_free_pfn.Statement.{statement}
@@ -23,10 +23,10 @@ pub next-free-pfn-spec : {M : Type 1} → statement M
 next-free-pfn-spec =
     tie.close
     (tie.spec
-    (λ c κs. search needs)
-    (λ c. search needs)
-    (λ c. search needs)
+    (λ c κs. search rules)
+    (λ c. search rules)
+    (λ c. search rules)
     returns
-    (λ c. search needs)
+    (λ c. search rules)
     returns-2
     returns-3)

@@ -1,5 +1,5 @@
 -- `release::free_page_order` meets its contract: what trying leaves picks the step of `free_from`. The measure is 5 less the order.
-use Rattle.common.specs.Kit.{ℕ, ◌-◌, ◌<◌, arith, needs}
+use Rattle.common.specs.Kit.{ℕ, ◌-◌, ◌<◌, arith, rules}
 use borrow.Fn.Kinds.{In}
 use borrow.Fn.PlainCycle.{Measures, is, falls, and}
 use Rattle.region.proofs.HeapMemoryRegion.free_page_raw.Reads as raw
@@ -28,10 +28,10 @@ module _ (t : ℕ) where
   try-to-merge-page-requires c κs = (ok_step _ _ _ c.before.before.requires.1).0
 
   enum-known-page : lts.Need-enum-known-page (claims t) (own_at t) own.Post
-  enum-known-page c = search needs
+  enum-known-page c = search rules
 
   enum_told : lts.Need-enum-told (claims t) (own_at t) own.Post
-  enum_told c = search needs
+  enum_told c = search rules
 
   free-page-raw-requires : lts.Need-free-page-raw-requires (claims t) (own_at t) own.Post
   free-page-raw-requires c κs =
@@ -39,7 +39,7 @@ module _ (t : ℕ) where
       (stays _ _ _ tried.try-to-merge-page.ensures c.before.enum_told.given.1).ok tried.before.before.before.requires.1
 
   same_length : lts.Need-same-length (claims t) (own_at t) own.Post
-  same_length c = search needs
+  same_length c = search rules
 
   returns : lts.Need-returns (claims t) (own_at t) own.Post
   returns c =
@@ -60,7 +60,7 @@ module _ (t : ℕ) where
       (omega (arith, g.small, tried.before.before.before.requires.0), g.ok tried.before.before.before.requires.1)
 
   same-length-2 : lts.Need-same-length-2 (claims t) (own_at t) own.Post
-  same-length-2 c = search needs
+  same-length-2 c = search rules
 
   returns-2 : lts.Need-returns-2 (claims t) (own_at t) own.Post
   returns-2 c =

@@ -1,5 +1,5 @@
 -- `release::compound_neighbor` meets its contract: the tests pick the case of `neighbor`.
-use Rattle.common.specs.Kit.{ℕ, ◌+◌, ◌*◌, ◌^◌, ◌≡◌, ◌∙◌, ⊎_elim, pow_pos, pow_mono, add-one, arith, needs, eq-eqb, ne_eqb, lt-ltb, le-ltb}
+use Rattle.common.specs.Kit.{ℕ, ◌+◌, ◌*◌, ◌^◌, ◌≡◌, ◌∙◌, ⊎_elim, pow_pos, pow_mono, add-one, arith, rules, eq-eqb, ne_eqb, lt-ltb, le-ltb}
 use native.Mathlib.Nat.{pow-succ'}
 use Rattle.region.specs.Pages.{buddy_of}
 use Rattle.region.specs.Steps.{neighbor}
@@ -47,4 +47,4 @@ returns-3 c = rw (← mate c.before) (simp (lt-ltb _ _ c.before.before.before.if
 pub compound-neighbor-spec : {M : Type 1} → statement M
 compound-neighbor-spec =
     tie.close
-    (tie.spec (λ c. search needs) returns (λ c κs. search needs) mul-if2 rem-if2 add-mate sub-mate returns-2 returns-3)
+    (tie.spec (λ c. search rules) returns (λ c κs. search rules) mul-if2 rem-if2 add-mate sub-mate returns-2 returns-3)

@@ -1,5 +1,5 @@
 -- `release::try_to_merge_page` meets its contract: what is found at the buddy decides whether the two join.
-use Rattle.common.specs.Kit.{◌≡◌, sym, ap, ◌∙◌, true, arith, needs, eq-eqb, ne_eqb}
+use Rattle.common.specs.Kit.{◌≡◌, sym, ap, ◌∙◌, true, arith, rules, eq-eqb, ne_eqb}
 use Rattle.pages.specs.Said.{said}
 use Rattle.pages.specs.Meaning.{free_order}
 use Rattle.pages.proofs.Patterns.{through, not_free}
@@ -88,21 +88,21 @@ pub try-to-merge-page-spec : {M : Type 1} → statement M
 try-to-merge-page-spec =
     tie.close
     (tie.spec
-    (λ c κs. search needs)
-    (λ c. search needs)
-    (λ c. search needs)
+    (λ c κs. search rules)
+    (λ c. search rules)
+    (λ c. search rules)
     returns
     read-page-info-requires
-    (λ c. search needs)
-    (λ c. search needs)
-    (λ c. search needs)
+    (λ c. search rules)
+    (λ c. search rules)
+    (λ c. search rules)
     returns-2
-    (λ c. search needs)
-    (λ c. search needs)
+    (λ c. search rules)
+    (λ c. search rules)
     returns-3
-    (λ c. search needs)
+    (λ c. search rules)
     returns-4
     allocate-pfn-requires
     merge-pages-requires
-    (λ c. search needs)
+    (λ c. search rules)
     returns-5)

@@ -1,5 +1,5 @@
 -- `setup::grow_block` meets its contract: its calls one after the other.
-use Rattle.common.specs.Kit.{pow_pos, arith, needs}
+use Rattle.common.specs.Kit.{pow_pos, arith, rules}
 use Rattle.setup.specs.Steps.{add_block, grow_block}
 use Rattle.setup.proofs.grow_block.Statement.{statement}
 use Rattle.setup.proofs.grow_block.Tie as tie
@@ -32,11 +32,11 @@ grow-block-spec =
     tie.close
     (tie.spec
     write-page-info-requires
-    (λ c κs. search needs)
-    (λ c. search needs)
-    (λ c. search needs)
-    (λ c. search needs)
-    (λ c κs. search needs)
+    (λ c κs. search rules)
+    (λ c. search rules)
+    (λ c. search rules)
+    (λ c. search rules)
+    (λ c κs. search rules)
     free-page-order-requires
-    (λ c. search needs)
+    (λ c. search rules)
     returns)

@@ -1,5 +1,5 @@
 -- `setup::grow_span` meets its contract: its calls one after the other, on either way through.
-use Rattle.common.specs.Kit.{needs, lt-ltb, le-ltb}
+use Rattle.common.specs.Kit.{rules, lt-ltb, le-ltb}
 use Rattle.setup.specs.Steps.{grow_from, grow_span}
 use Rattle.setup.proofs.grow_span.Statement.{statement}
 use Rattle.setup.proofs.grow_span.Tie as tie
@@ -39,20 +39,20 @@ pub grow-span-spec : {M : Type 1} → statement M
 grow-span-spec =
     tie.close
     (tie.spec
-    (λ c. search needs)
-    (λ c. search needs)
-    (λ c. search needs)
-    (λ c. search needs)
-    (λ c. search needs)
-    (λ c. search needs)
+    (λ c. search rules)
+    (λ c. search rules)
+    (λ c. search rules)
+    (λ c. search rules)
+    (λ c. search rules)
+    (λ c. search rules)
     grow-blocks-requires
-    (λ c. search needs)
+    (λ c. search rules)
     grow-blocks-requires-2
-    (λ c. search needs)
+    (λ c. search rules)
     grow-blocks-requires-3
-    (λ c. search needs)
+    (λ c. search rules)
     grow-blocks-requires-4
-    (λ c. search needs)
+    (λ c. search rules)
     returns
-    (λ c. search needs)
+    (λ c. search rules)
     returns-2)

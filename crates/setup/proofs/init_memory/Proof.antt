@@ -1,5 +1,5 @@
 -- `setup::init_memory` meets its contract: its calls one after the other, each safe by the law of set-up.
-use Rattle.common.specs.Kit.{arith, needs}
+use Rattle.common.specs.Kit.{arith, rules}
 use Rattle.region.proofs.Limits.{pages-small}
 use Rattle.setup.specs.Steps.{blank, init_memory}
 use Rattle.setup.proofs.Init.{init-image}
@@ -35,10 +35,10 @@ init-memory-spec =
     tie.close
     (tie.spec
     alloc-pages-requires
-    (λ c κs. search needs)
-    (λ c. search needs)
-    (λ c κs. search needs)
-    (λ c κs. search needs)
+    (λ c κs. search rules)
+    (λ c. search rules)
+    (λ c κs. search rules)
+    (λ c κs. search rules)
     grow-span-requires
-    (λ c. search needs)
+    (λ c. search rules)
     returns)

@@ -1,6 +1,6 @@
 -- `shell::answer` meets its contract: `act` has the first words, and `finish` those that it left, before the others.
 use native.Mathlib.Nat.{sub-zero}
-use Rattle.common.specs.Kit.{needs, le-leb, lt-leb}
+use Rattle.common.specs.Kit.{rules, le-leb, lt-leb}
 use Rattle.shell.specs.Shell.{answered}
 use Rattle.shell.proofs.answer.Statement.{statement}
 use Rattle.shell.proofs.answer.Tie as tie
@@ -11,14 +11,14 @@ answer-spec =
     tie.close
     (tie.spec
     (λ c. search lt-leb)
-    (λ c. search needs)
-    (λ c. search needs)
-    (λ c. search needs)
-    (λ c κs. search needs)
-    (λ c κs. search needs)
-    (λ c κs. search needs)
-    (λ c. search needs)
-    (λ c. search needs)
+    (λ c. search rules)
+    (λ c. search rules)
+    (λ c. search rules)
+    (λ c κs. search rules)
+    (λ c κs. search rules)
+    (λ c κs. search rules)
+    (λ c. search rules)
+    (λ c. search rules)
     (λ c.
     let f = c.before.before.before.before in
     let a = f.before.before.before.before.before in

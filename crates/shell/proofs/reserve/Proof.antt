@@ -1,5 +1,5 @@
 -- `shell::reserve` meets its contract. The loop's invariant: the first i words are Reserved, and the others are as they were.
-use Rattle.common.specs.Kit.{◌-◌, ◌≤◌, ◌≡◌, refl, ◌++◌, length, drop, replicate, length-set, arith, needs}
+use Rattle.common.specs.Kit.{◌-◌, ◌≤◌, ◌≡◌, refl, ◌++◌, length, drop, replicate, length-set, arith, rules}
 use borrow.Author.Fill.{fill_more}
 use Rattle.shell.proofs.reserve.Statement.{statement}
 use Rattle.shell.proofs.reserve.Tie as tie
@@ -17,14 +17,14 @@ reserve_spec =
     invariant-loop
     decreases-loop
     (λ c. (omega arith, omega arith, refl, refl))
-    (λ c. search needs)
+    (λ c. search rules)
     (λ c. (omega arith, c.before.before.loop.invariant.3))
-    (λ c. search needs)
-    (λ c. search needs)
-    (λ c. search needs)
-    (λ c. search needs)
+    (λ c. search rules)
+    (λ c. search rules)
+    (λ c. search rules)
+    (λ c. search rules)
     (λ c.
     let l = c.before.before.loop in
     (omega arith, omega arith, simp length-set (omega arith), rw l.invariant.3 (fill_more l.i 15 _ (omega arith))))
-    (λ c. search needs)
+    (λ c. search rules)
     (λ c. (omega arith, c.before.loop.invariant.3)))

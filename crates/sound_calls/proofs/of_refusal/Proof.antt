@@ -1,5 +1,5 @@
--- `sound_calls::of_refusal` meets its contract: the arm says which refusal it is. A refusal more is two needs and a line more.
-use Rattle.common.specs.Kit.{needs}
+-- `sound_calls::of_refusal` meets its contract: the arm says which refusal it is. A refusal more is two rules and a line more.
+use Rattle.common.specs.Kit.{rules}
 use Rattle.sound_calls.proofs.of_refusal.Statement.{statement}
 use Rattle.sound_calls.proofs.of_refusal.Tie as tie
 
@@ -7,30 +7,30 @@ pub of-refusal-spec : {M : Type 1} → statement M
 of-refusal-spec =
     tie.close
     (tie.spec
-    (λ c. search needs)
-    (λ c κs. search needs)
-    (λ c. search needs)
-    (λ c κs. search needs)
-    (λ c. search needs)
-    (λ c κs. search needs)
-    (λ c. search needs)
-    (λ c κs. search needs)
-    (λ c. search needs)
-    (λ c κs. search needs)
-    (λ c. search needs)
-    (λ c κs. search needs)
-    (λ c. search needs)
-    (λ c κs. search needs)
-    (λ c. search needs)
-    (λ c κs. search needs)
-    (λ c. search needs)
-    (λ c κs. search needs)
-    (λ c. search needs)
-    (λ c κs. search needs)
-    (λ c. search needs)
-    (λ c κs. search needs)
-    (λ c. search needs)
-    (λ c κs. search needs)
+    (λ c. search rules)
+    (λ c κs. search rules)
+    (λ c. search rules)
+    (λ c κs. search rules)
+    (λ c. search rules)
+    (λ c κs. search rules)
+    (λ c. search rules)
+    (λ c κs. search rules)
+    (λ c. search rules)
+    (λ c κs. search rules)
+    (λ c. search rules)
+    (λ c κs. search rules)
+    (λ c. search rules)
+    (λ c κs. search rules)
+    (λ c. search rules)
+    (λ c κs. search rules)
+    (λ c. search rules)
+    (λ c κs. search rules)
+    (λ c. search rules)
+    (λ c κs. search rules)
+    (λ c. search rules)
+    (λ c κs. search rules)
+    (λ c. search rules)
+    (λ c κs. search rules)
     (λ c. simp (c.before.enum_told.given.1, c.bare.ensures))
     (λ c. simp (c.before.enum-told2.given.1, c.bare2.ensures))
     (λ c. simp (c.before.enum-told3.given.1, c.bare3.ensures))

@@ -1,5 +1,5 @@
 -- `abi::reads::tingmudra_layout_from_ptr` meets its contract: the record's length picks the case of `lookup_answer`.
-use Rattle.common.specs.Kit.{eq-eqb, ne_eqb, needs}
+use Rattle.common.specs.Kit.{eq-eqb, ne_eqb, rules}
 use Rattle.abi.proofs.reads.tingmudra_layout_from_ptr.Statement.{statement}
 use Rattle.abi.proofs.reads.tingmudra_layout_from_ptr.Tie as tie
 
@@ -14,10 +14,10 @@ pub tingmudra-layout-from-ptr-spec : {M : Type 1} → statement M
 tingmudra-layout-from-ptr-spec =
     tie.close
     (tie.spec
-    (λ c κs. search needs)
+    (λ c κs. search rules)
     (λ c. simp (ne_eqb _ 21 c.before.if1.true, c.bad-buffer.ensures))
-    (λ c κs. search needs)
-    (λ c κs. search needs)
-    (λ c κs. search needs)
-    (λ c κs. search needs)
+    (λ c κs. search rules)
+    (λ c κs. search rules)
+    (λ c κs. search rules)
+    (λ c κs. search rules)
     returns-2)

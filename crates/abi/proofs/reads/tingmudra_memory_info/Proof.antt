@@ -1,5 +1,5 @@
 -- `abi::reads::tingmudra_memory_info` meets its contract: the lengths and the answer pick the case of `report_left`.
-use Rattle.common.specs.Kit.{ap, eq-eqb, ne_eqb, needs}
+use Rattle.common.specs.Kit.{ap, eq-eqb, ne_eqb, rules}
 use Rattle.abi.specs.Promise.{reported}
 use Rattle.abi.proofs.Packed.{reports}
 use Rattle.abi.proofs.reads.tingmudra_memory_info.Statement.{statement}
@@ -30,16 +30,16 @@ pub tingmudra-memory-info-spec : {M : Type 1} → statement M
 tingmudra-memory-info-spec =
     tie.close
     (tie.spec
-    (λ c κs. search needs)
+    (λ c κs. search rules)
     (λ c. simp (ne_eqb _ 21 c.before.if1.true, c.bad-buffer.ensures))
-    (λ c κs. search needs)
+    (λ c κs. search rules)
     (λ c. simp (eq-eqb _ 21 c.before.before.if1.false, ne_eqb _ 12 c.before.if2.true, c.bad-buffer2.ensures))
-    (λ c κs. search needs)
-    (λ c κs. search needs)
-    (λ c κs. search needs)
-    (λ c κs. search needs)
+    (λ c κs. search rules)
+    (λ c κs. search rules)
+    (λ c κs. search rules)
+    (λ c κs. search rules)
     returns-3
-    (λ c κs. search needs)
-    (λ c κs. search needs)
-    (λ c. search needs)
+    (λ c κs. search rules)
+    (λ c κs. search rules)
+    (λ c. search rules)
     returns-4)

@@ -1,5 +1,5 @@
 -- `abi::record::load` meets its contract: each field is read where `unpacked` reads it.
-use Rattle.common.specs.Kit.{needs}
+use Rattle.common.specs.Kit.{rules}
 use Rattle.abi.specs.Record.{unpacked}
 use Rattle.abi.proofs.record.load.Statement.{statement}
 use Rattle.abi.proofs.record.load.Tie as tie
@@ -14,10 +14,10 @@ pub load_spec : {M : Type 1} → statement M
 load_spec =
     tie.close
     (tie.spec
-    (λ c κs. search needs)
-    (λ c κs. search needs)
-    (λ c κs. search needs)
-    (λ c. search needs)
-    (λ c. search needs)
-    (λ c. search needs)
+    (λ c κs. search rules)
+    (λ c κs. search rules)
+    (λ c κs. search rules)
+    (λ c. search rules)
+    (λ c. search rules)
+    (λ c. search rules)
     returns)

@@ -1,5 +1,5 @@
 -- `abi::record::put_six` meets its contract. The loop's invariant: the first `i` of the six are pasted in.
-use Rattle.common.specs.Kit.{◌-◌, ◌≤◌, ◌≡◌, refl, ◌∙◌, length, take, length-set, take_all, add-one, arith, needs}
+use Rattle.common.specs.Kit.{◌-◌, ◌≤◌, ◌≡◌, refl, ◌∙◌, length, take, length-set, take_all, add-one, arith, rules}
 use mathlib.Core.List.{append_assoc}
 use lib.Seq.{paste, paste-zero, paste-suc}
 use Rattle.abi.specs.Record.{with_six}
@@ -34,13 +34,13 @@ put-six-spec =
     invariant-loop
     decreases-loop
     (λ c. (omega arith, refl, paste-zero c.args.numbers.now c.args.from c.args.t3))
-    (λ c. search needs)
-    (λ c. search needs)
-    (λ c. search needs)
-    (λ c. search needs)
-    (λ c. search needs)
-    (λ c. search needs)
-    (λ c. search needs)
+    (λ c. search rules)
+    (λ c. search rules)
+    (λ c. search rules)
+    (λ c. search rules)
+    (λ c. search rules)
+    (λ c. search rules)
+    (λ c. search rules)
     loop-again
-    (λ c. search needs)
+    (λ c. search rules)
     returns)

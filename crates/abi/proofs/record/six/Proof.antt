@@ -1,5 +1,5 @@
 -- `abi::record::six` meets its contract. The loop's invariant: the first `i` numbers are those from the place on.
-use Rattle.common.specs.Kit.{◌-◌, ◌≤◌, ◌<◌, ◌≡◌, refl, ◌∙◌, ◌++◌, length, take, drop, replicate, length-set, length-drop, zero-add, add-one, arith, needs}
+use Rattle.common.specs.Kit.{◌-◌, ◌≤◌, ◌<◌, ◌≡◌, refl, ◌∙◌, ◌++◌, length, take, drop, replicate, length-set, length-drop, zero-add, add-one, arith, rules}
 use mathlib.Core.List.{append-nil}
 use lib.Seq.{paste-suc, get_or-drop}
 use Rattle.abi.specs.Record.{six_from}
@@ -35,12 +35,12 @@ six-spec =
     invariant-loop
     decreases-loop
     (λ c. (omega arith, refl, refl))
-    (λ c. search needs)
-    (λ c. search needs)
-    (λ c. search needs)
-    (λ c. search needs)
-    (λ c. search needs)
-    (λ c. search needs)
-    (λ c. search needs)
+    (λ c. search rules)
+    (λ c. search rules)
+    (λ c. search rules)
+    (λ c. search rules)
+    (λ c. search rules)
+    (λ c. search rules)
+    (λ c. search rules)
     loop-again
     returns)

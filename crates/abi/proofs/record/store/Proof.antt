@@ -1,5 +1,5 @@
 -- `abi::record::store` meets its contract: the parts are written from the end on, and then the first three numbers.
-use Rattle.common.specs.Kit.{length-set, arith, needs}
+use Rattle.common.specs.Kit.{length-set, arith, rules}
 use Rattle.abi.proofs.Packed.{stored}
 use Rattle.abi.proofs.record.store.Statement.{statement}
 use Rattle.abi.proofs.record.store.Tie as tie
@@ -16,10 +16,10 @@ pub store_spec : {M : Type 1} → statement M
 store_spec =
     tie.close
     (tie.spec
-    (λ c κs. search needs)
-    (λ c κs. search needs)
-    (λ c κs. search needs)
-    (λ c. search needs)
+    (λ c κs. search rules)
+    (λ c κs. search rules)
+    (λ c κs. search rules)
+    (λ c. search rules)
     (λ c. simp length-set (omega arith))
     (λ c. simp length-set (omega arith))
     (λ c. simp length-set (omega arith))

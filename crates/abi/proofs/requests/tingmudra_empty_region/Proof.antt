@@ -1,5 +1,5 @@
 -- `abi::requests::tingmudra_empty_region` meets its contract: the record's length picks the case of `empty_left`.
-use Rattle.common.specs.Kit.{eq-eqb, ne_eqb, needs}
+use Rattle.common.specs.Kit.{eq-eqb, ne_eqb, rules}
 use Rattle.abi.proofs.requests.tingmudra_empty_region.Statement.{statement}
 use Rattle.abi.proofs.requests.tingmudra_empty_region.Tie as tie
 
@@ -14,10 +14,10 @@ pub tingmudra-empty-region-spec : {M : Type 1} → statement M
 tingmudra-empty-region-spec =
     tie.close
     (tie.spec
-    (λ c κs. search needs)
+    (λ c κs. search rules)
     (λ c. simp (ne_eqb _ 21 c.before.if1.true, c.bad-buffer.ensures))
-    (λ c κs. search needs)
-    (λ c κs. search needs)
-    (λ c κs. search needs)
-    (λ c. search needs)
+    (λ c κs. search rules)
+    (λ c κs. search rules)
+    (λ c κs. search rules)
+    (λ c. search rules)
     returns-2)

@@ -1,5 +1,5 @@
 -- `abi::requests::tingmudra_free_page` meets its contract: the record's length picks the case of `call_left`.
-use Rattle.common.specs.Kit.{eq-eqb, ne_eqb, needs}
+use Rattle.common.specs.Kit.{eq-eqb, ne_eqb, rules}
 use Rattle.abi.proofs.requests.tingmudra_free_page.Statement.{statement}
 use Rattle.abi.proofs.requests.tingmudra_free_page.Tie as tie
 
@@ -15,12 +15,12 @@ pub tingmudra-free-page-spec : {M : Type 1} → statement M
 tingmudra-free-page-spec =
     tie.close
     (tie.spec
-    (λ c κs. search needs)
+    (λ c κs. search rules)
     (λ c. simp (ne_eqb _ 21 c.before.if1.true, c.bad-buffer.ensures))
-    (λ c κs. search needs)
-    (λ c κs. search needs)
-    (λ c κs. search needs)
-    (λ c κs. search needs)
-    (λ c. search needs)
-    (λ c. search needs)
+    (λ c κs. search rules)
+    (λ c κs. search rules)
+    (λ c κs. search rules)
+    (λ c κs. search rules)
+    (λ c. search rules)
+    (λ c. search rules)
     returns-2)

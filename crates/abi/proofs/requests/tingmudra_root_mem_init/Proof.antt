@@ -1,5 +1,5 @@
 -- `abi::requests::tingmudra_root_mem_init` meets its contract: the record's length picks the case of `set_up_left`.
-use Rattle.common.specs.Kit.{eq-eqb, ne_eqb, needs}
+use Rattle.common.specs.Kit.{eq-eqb, ne_eqb, rules}
 use Rattle.abi.proofs.requests.tingmudra_root_mem_init.Statement.{statement}
 use Rattle.abi.proofs.requests.tingmudra_root_mem_init.Tie as tie
 
@@ -14,11 +14,11 @@ pub tingmudra-root-mem-init-spec : {M : Type 1} → statement M
 tingmudra-root-mem-init-spec =
     tie.close
     (tie.spec
-    (λ c κs. search needs)
+    (λ c κs. search rules)
     (λ c. simp (ne_eqb _ 21 c.before.if1.true, c.bad-buffer.ensures))
-    (λ c κs. search needs)
-    (λ c κs. search needs)
-    (λ c κs. search needs)
-    (λ c. search needs)
-    (λ c. search needs)
+    (λ c κs. search rules)
+    (λ c κs. search rules)
+    (λ c κs. search rules)
+    (λ c. search rules)
+    (λ c. search rules)
     returns-2)

@@ -1,5 +1,5 @@
 -- `abi::word::tingmudra_decode` meets its contract: the word says nothing, or the fields are those of its page.
-use Rattle.common.specs.Kit.{sym, ◌∙◌, needs}
+use Rattle.common.specs.Kit.{sym, ◌∙◌, rules}
 use Rattle.abi.proofs.word.tingmudra_decode.Statement.{statement}
 use Rattle.abi.proofs.word.tingmudra_decode.Tie as tie
 
@@ -15,9 +15,9 @@ pub tingmudra-decode-spec : {M : Type 1} → statement M
 tingmudra-decode-spec =
     tie.close
     (tie.spec
-    (λ c κs. search needs)
-    (λ c. search needs)
-    (λ c. search needs)
+    (λ c κs. search rules)
+    (λ c. search rules)
+    (λ c. search rules)
     returns
-    (λ c κs. search needs)
+    (λ c κs. search rules)
     returns-2)

@@ -1,5 +1,5 @@
 -- `answers::hash::fnv` meets its contract. The loop's invariant: the words left, on the hash so far, give the hash of all.
-use Rattle.common.specs.Kit.{◌-◌, ◌<◌, ◌≡◌, refl, length, drop, drop_of_length-le, drop-cons, add-one, arith, needs}
+use Rattle.common.specs.Kit.{◌-◌, ◌<◌, ◌≡◌, refl, length, drop, drop_of_length-le, drop-cons, add-one, arith, rules}
 use Rattle.answers.specs.Hash.{with_words, hash_of}
 use Rattle.answers.proofs.hash.fnv.Statement.{statement}
 use Rattle.answers.proofs.hash.fnv.Tie as tie
@@ -18,11 +18,11 @@ fnv-spec =
     invariant-loop
     decreases-loop
     (λ c. refl)
-    (λ c. search needs)
-    (λ c. search needs)
-    (λ c κs. search needs)
-    (λ c. search needs)
-    (λ c. search needs)
+    (λ c. search rules)
+    (λ c. search rules)
+    (λ c κs. search rules)
+    (λ c. search rules)
+    (λ c. search rules)
     (λ c.
     let l = c.before.before.before in
     let words = l.before.before.args.words.now in

@@ -1,5 +1,5 @@
 -- `answers::hash::with_word` meets its contract. The loop's invariant: the bytes left, on the hash so far, give the hash of all eight.
-use Rattle.common.specs.Kit.{suc, ◌+◌, ◌-◌, ◌≡◌, refl, arith, needs}
+use Rattle.common.specs.Kit.{suc, ◌+◌, ◌-◌, ◌≡◌, refl, arith, rules}
 use Rattle.answers.specs.Hash.{with_byte, with_bytes}
 use Rattle.answers.proofs.hash.with_word.Statement.{statement}
 use Rattle.answers.proofs.hash.with_word.Tie as tie
@@ -18,9 +18,9 @@ with-word-spec =
     invariant-loop
     decreases-loop
     (λ c. refl)
-    (λ c κs. search needs)
-    (λ c. search needs)
-    (λ c. search needs)
+    (λ c κs. search rules)
+    (λ c. search rules)
+    (λ c. search rules)
     (λ c.
     let l = c.before.before.loop in
     let k : 8 - l.i ≡ suc (8 - (l.i + 1)) = omega arith in

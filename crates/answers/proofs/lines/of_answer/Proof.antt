@@ -1,5 +1,5 @@
 -- `answers::lines::of_answer` meets its contract: its test is the one of `line_of`.
-use Rattle.common.specs.Kit.{needs, eq-eqb, ne_eqb}
+use Rattle.common.specs.Kit.{rules, eq-eqb, ne_eqb}
 use Rattle.answers.specs.Lines.{line_of}
 use Rattle.answers.proofs.lines.of_answer.Statement.{statement}
 use Rattle.answers.proofs.lines.of_answer.Tie as tie
@@ -9,10 +9,10 @@ unfolding line_of
 of-answer-spec =
     tie.close
     (tie.spec
-    (λ c κs. search needs)
-    (λ c κs. search needs)
-    (λ c κs. search needs)
-    (λ c κs. search needs)
+    (λ c κs. search rules)
+    (λ c κs. search rules)
+    (λ c κs. search rules)
+    (λ c κs. search rules)
     (λ c.
     let values = c.before.before.before in
     simp (c.with-both.ensures, values.carried2.ensures, values.before.carried.ensures, eq-eqb _ _ c.before.if1.true))

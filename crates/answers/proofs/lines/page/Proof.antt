@@ -1,5 +1,5 @@
 -- `answers::lines::page` meets its contract: the arm says which page it is.
-use Rattle.common.specs.Kit.{needs}
+use Rattle.common.specs.Kit.{rules}
 use Rattle.answers.proofs.lines.page.Statement.{statement}
 use Rattle.answers.proofs.lines.page.Tie as tie
 
@@ -7,19 +7,19 @@ pub page-spec : {M : Type 1} → statement M
 page-spec =
     tie.close
     (tie.spec
-    (λ c. search needs)
-    (λ c κs. search needs)
-    (λ c κs. search needs)
-    (λ c. search needs)
-    (λ c κs. search needs)
-    (λ c. search needs)
-    (λ c κs. search needs)
-    (λ c. search needs)
-    (λ c κs. search needs)
-    (λ c. search needs)
-    (λ c κs. search needs)
-    (λ c. search needs)
-    (λ c κs. search needs)
+    (λ c. search rules)
+    (λ c κs. search rules)
+    (λ c κs. search rules)
+    (λ c. search rules)
+    (λ c κs. search rules)
+    (λ c. search rules)
+    (λ c κs. search rules)
+    (λ c. search rules)
+    (λ c κs. search rules)
+    (λ c. search rules)
+    (λ c κs. search rules)
+    (λ c. search rules)
+    (λ c κs. search rules)
     (λ c. simp (c.before.before.before.info.given.1, c.before.page-number.ensures, c.with-both.ensures))
     (λ c. simp (c.before.before.info2.given.1, c.with.ensures))
     (λ c. simp (c.before.before.info3.given.1, c.with2.ensures))

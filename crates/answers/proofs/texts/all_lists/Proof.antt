@@ -1,5 +1,5 @@
 -- `answers::texts::all_lists` ends and is safe. The loop's invariant: `out` keeps its length.
-use Rattle.common.specs.Kit.{◌-◌, ◌≡◌, length, needs}
+use Rattle.common.specs.Kit.{◌-◌, ◌≡◌, length, rules}
 use Rattle.answers.proofs.texts.all_lists.Statement.{statement}
 use Rattle.answers.proofs.texts.all_lists.Tie as tie
 
@@ -15,14 +15,14 @@ all-lists-spec =
     (tie.spec
     invariant-loop
     decreases-loop
-    (λ c. search needs)
-    (λ c. search needs)
-    (λ c. search needs)
-    (λ c. search needs)
-    (λ c. search needs)
-    (λ c κs. search needs)
-    (λ c. search needs)
-    (λ c. search needs)
-    (λ c. search needs)
-    (λ c. search needs)
-    (λ c. search needs))
+    (λ c. search rules)
+    (λ c. search rules)
+    (λ c. search rules)
+    (λ c. search rules)
+    (λ c. search rules)
+    (λ c κs. search rules)
+    (λ c. search rules)
+    (λ c. search rules)
+    (λ c. search rules)
+    (λ c. search rules)
+    (λ c. search rules))

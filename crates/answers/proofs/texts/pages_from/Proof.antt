@@ -1,5 +1,5 @@
 -- `answers::texts::pages_from` ends and is safe. The loop's invariant: `out` keeps its length. The measure is the count.
-use Rattle.common.specs.Kit.{◌≡◌, length, needs}
+use Rattle.common.specs.Kit.{◌≡◌, length, rules}
 use Rattle.answers.proofs.texts.pages_from.Statement.{statement}
 use Rattle.answers.proofs.texts.pages_from.Tie as tie
 
@@ -15,14 +15,14 @@ pages-from-spec =
     (tie.spec
     invariant-loop
     decreases-loop
-    (λ c. search needs)
-    (λ c. search needs)
-    (λ c. search needs)
-    (λ c. search needs)
-    (λ c κs. search needs)
-    (λ c κs. search needs)
-    (λ c. search needs)
-    (λ c. search needs)
-    (λ c. search needs)
-    (λ c. search needs)
-    (λ c. search needs))
+    (λ c. search rules)
+    (λ c. search rules)
+    (λ c. search rules)
+    (λ c. search rules)
+    (λ c κs. search rules)
+    (λ c κs. search rules)
+    (λ c. search rules)
+    (λ c. search rules)
+    (λ c. search rules)
+    (λ c. search rules)
+    (λ c. search rules))

@@ -1,5 +1,5 @@
 -- `audit::counts::same` meets its contract: the orders that are left have the answer.
-use Rattle.common.specs.Kit.{◌-◌, ◌≤◌, ◌≡◌, refl, eqb, get_or, arith, needs, eq-eqb, ne_eqb}
+use Rattle.common.specs.Kit.{◌-◌, ◌≤◌, ◌≡◌, refl, eqb, get_or, arith, rules, eq-eqb, ne_eqb}
 use Rattle.audit.specs.Check.{all, counts}
 use Rattle.audit.proofs.Loops.{all-next, all-stops, all-ends}
 use Rattle.audit.proofs.counts.same.Statement.{statement}
@@ -30,12 +30,12 @@ same_spec =
     invariant-loop
     decreases-loop
     loop-holds
-    (λ c. search needs)
-    (λ c. search needs)
-    (λ c. search needs)
-    (λ c. search needs)
+    (λ c. search rules)
+    (λ c. search rules)
+    (λ c. search rules)
+    (λ c. search rules)
     returns
-    (λ c. search needs)
-    (λ c. search needs)
+    (λ c. search rules)
+    (λ c. search rules)
     loop-again
     returns-2)

@@ -1,5 +1,5 @@
 -- `audit::heads::free_order` meets its contract: the two patterns lead to the cases of `free_order`.
-use Rattle.common.specs.Kit.{sym, ap, ◌∙◌, needs}
+use Rattle.common.specs.Kit.{sym, ap, ◌∙◌, rules}
 use Rattle.pages.proofs.Patterns.{not_free}
 use Rattle.pages.specs.Meaning.{free_order}
 use Rattle.audit.proofs.heads.free_order.Statement.{statement}
@@ -10,4 +10,4 @@ returns-2 c = let i = c.before.before.said.given in sym (ap free_order i.1 ∙ (
 
 pub free-order-spec : {M : Type 1} → statement M
 free-order-spec =
-    tie.close (tie.spec (λ c. search needs) (λ c. search needs) (λ c. search needs) (λ c. search needs) returns-2 (λ c. search needs))
+    tie.close (tie.spec (λ c. search rules) (λ c. search rules) (λ c. search rules) (λ c. search rules) returns-2 (λ c. search rules))

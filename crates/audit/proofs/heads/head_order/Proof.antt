@@ -1,5 +1,5 @@
 -- `audit::heads::head_order` meets its contract: the arm says which constructor it is, and its test is the one of `head_order`.
-use Rattle.common.specs.Kit.{sym, ◌∙◌, needs, le-leb, lt-leb}
+use Rattle.common.specs.Kit.{sym, ◌∙◌, rules, le-leb, lt-leb}
 use Rattle.audit.proofs.heads.head_order.Statement.{statement}
 use Rattle.audit.proofs.heads.head_order.Tie as tie
 
@@ -25,21 +25,21 @@ pub head-order-spec : {M : Type 1} → statement M
 head-order-spec =
     tie.close
     (tie.spec
-    (λ c. search needs)
-    (λ c. search needs)
-    (λ c. search needs)
-    (λ c. search needs)
-    (λ c. search needs)
-    (λ c. search needs)
-    (λ c κs. search needs)
-    (λ c. search needs)
-    (λ c. search needs)
-    (λ c. search needs)
-    (λ c. search needs)
-    (λ c. search needs)
+    (λ c. search rules)
+    (λ c. search rules)
+    (λ c. search rules)
+    (λ c. search rules)
+    (λ c. search rules)
+    (λ c. search rules)
+    (λ c κs. search rules)
+    (λ c. search rules)
+    (λ c. search rules)
+    (λ c. search rules)
+    (λ c. search rules)
+    (λ c. search rules)
     returns-4
     returns-5
-    (λ c. search needs)
+    (λ c. search rules)
     returns-7
     returns-8
-    (λ c. search needs))
+    (λ c. search rules))

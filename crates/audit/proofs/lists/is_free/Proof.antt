@@ -1,5 +1,5 @@
 -- `audit::lists::is_free` meets its contract: the tests are those of `is_free`.
-use Rattle.common.specs.Kit.{needs, lt-ltb, le-ltb, le-leb, lt-leb}
+use Rattle.common.specs.Kit.{rules, lt-ltb, le-ltb, le-leb, lt-leb}
 use Rattle.buddy.specs.Rules.{span}
 use Rattle.audit.specs.Check.{is_free}
 use Rattle.audit.proofs.lists.is_free.Statement.{statement}
@@ -25,4 +25,4 @@ returns-3 c =
 
 pub is-free-spec : {M : Type 1} → statement M
 is-free-spec =
-    tie.close (tie.spec returns returns-2 (λ c κs. search needs) (λ c κs. search needs) returns-3)
+    tie.close (tie.spec returns returns-2 (λ c κs. search rules) (λ c κs. search rules) returns-3)

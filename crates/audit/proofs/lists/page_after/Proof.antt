@@ -1,5 +1,5 @@
 -- `audit::lists::page_after` meets its contract: the test picks the case.
-use Rattle.common.specs.Kit.{sym, ◌∙◌, arith, needs}
+use Rattle.common.specs.Kit.{sym, ◌∙◌, arith, rules}
 use Rattle.buddy.proofs.Spans.{T-span}
 use Rattle.audit.specs.Survey.{page_after}
 use Rattle.audit.proofs.Listing.{decide-free}
@@ -19,4 +19,4 @@ unfolding page_after
 returns-2 c = rw (← c.before.is_free.ensures, c.if1.false)
 
 pub page-after-spec : {M : Type 1} → statement M
-page-after-spec = tie.close (tie.spec (λ c κs. search needs) next-free-pfn-requires returns returns-2)
+page-after-spec = tie.close (tie.spec (λ c κs. search rules) next-free-pfn-requires returns returns-2)

@@ -1,5 +1,5 @@
 -- `audit::lists::step` meets its contract: one place is written.
-use Rattle.common.specs.Kit.{needs}
+use Rattle.common.specs.Kit.{rules}
 use Rattle.audit.proofs.lists.step.Statement.{statement}
 use Rattle.audit.proofs.lists.step.Tie as tie
 
@@ -10,9 +10,9 @@ pub step_spec : {M : Type 1} → statement M
 step_spec =
     tie.close
     (tie.spec
-    (λ c. search needs)
-    (λ c. search needs)
-    (λ c κs. search needs)
-    (λ c. search needs)
-    (λ c. search needs)
+    (λ c. search rules)
+    (λ c. search rules)
+    (λ c κs. search rules)
+    (λ c. search rules)
+    (λ c. search rules)
     returns)

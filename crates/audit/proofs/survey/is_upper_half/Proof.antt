@@ -1,5 +1,5 @@
 -- `audit::survey::is_upper_half` meets its contract: the tests are those of `upper_half`.
-use Rattle.common.specs.Kit.{◌+◌, and-false, pow_pos, arith, needs, eq-eqb, ne_eqb, lt-ltb, le-ltb}
+use Rattle.common.specs.Kit.{◌+◌, and-false, pow_pos, arith, rules, eq-eqb, ne_eqb, lt-ltb, le-ltb}
 use Rattle.audit.specs.Survey.{upper_half}
 use Rattle.audit.proofs.survey.is_upper_half.Statement.{statement}
 use Rattle.audit.proofs.survey.is_upper_half.Tie as tie
@@ -21,4 +21,4 @@ returns-3 c = simp (eq-eqb _ _ c.before.before.if1.false, lt-ltb _ _ c.before.if
 
 pub is-upper-half-spec : {M : Type 1} → statement M
 is-upper-half-spec =
-    tie.close (tie.spec returns (λ c. search needs) returns-2 (λ c. search needs) (λ c κs. search needs) rem-result returns-3)
+    tie.close (tie.spec returns (λ c. search rules) returns-2 (λ c. search rules) (λ c κs. search rules) rem-result returns-3)

@@ -1,5 +1,5 @@
 -- `audit::survey::note_free` meets its contract: what is not free changes nothing, and the test decides for the rest.
-use Rattle.common.specs.Kit.{sym, ap, ◌∙◌, not, false≢true, arith, needs}
+use Rattle.common.specs.Kit.{sym, ap, ◌∙◌, not, false≢true, arith, rules}
 use lib.Seq.{set_out}
 use Rattle.audit.proofs.Buddies.{used-half}
 use Rattle.audit.proofs.survey.note_free.Statement.{statement}
@@ -34,4 +34,4 @@ returns-3 c =
 pub note-free-spec : {M : Type 1} → statement M
 note-free-spec =
     tie.close
-    (tie.spec returns (λ c κs. search needs) returns-2 (λ c κs. search needs) (λ c κs. search needs) returns-3)
+    (tie.spec returns (λ c κs. search rules) returns-2 (λ c κs. search rules) (λ c κs. search rules) returns-3)

@@ -1,5 +1,5 @@
 -- `audit::survey::survey` meets its contract: up to the page that it has come to, all is as it should be.
-use Rattle.common.specs.Kit.{◌+◌, ◌-◌, ◌^◌, ◌≤◌, ◌<◌, ◌≡◌, sym, ap, ◌∙◌, true, pow_pos, arith, needs, not-true, not-false}
+use Rattle.common.specs.Kit.{◌+◌, ◌-◌, ◌^◌, ◌≤◌, ◌<◌, ◌≡◌, sym, ap, ◌∙◌, true, pow_pos, arith, rules, not-true, not-false}
 use Rattle.buddy.specs.Rules.{span}
 use Rattle.buddy.proofs.Spans.{span-in, span-out}
 use Rattle.pages.specs.Said.{said}
@@ -22,7 +22,7 @@ decreases-loop words from end blocks₀ frees₀ at₀ before₀ pfn₀ blocks f
 loop-holds : tie.Need-loop-init invariant-loop decreases-loop
 loop-holds c =
     let k = c.before.requires in
-    (omega arith, walk-to _ (within-bounded k) _ (search needs) _ k.from (λ q l. span-out _ _ q (omega arith)))
+    (omega arith, walk-to _ (within-bounded k) _ (search rules) _ k.from (λ q l. span-out _ _ q (omega arith)))
 
 read-page-info-requires : tie.Need-read-page-info-requires invariant-loop decreases-loop
 read-page-info-requires c κs = omega (arith, c.if1.false, c.before.before.before.requires.ends)
@@ -132,9 +132,9 @@ survey-spec =
     decreases-loop
     loop-holds
     read-page-info-requires
-    (λ c κs. search needs)
+    (λ c κs. search rules)
     block-at-requires
-    (λ c κs. search needs)
+    (λ c κs. search rules)
     note-free-requires
     add-one-requires
     size-requires

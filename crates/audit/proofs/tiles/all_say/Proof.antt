@@ -1,5 +1,5 @@
 -- `audit::tiles::all_say` meets its contract: no other word so far, and the pages that are left, have the answer.
-use Rattle.common.specs.Kit.{◌-◌, refl, eqb, get_or, needs}
+use Rattle.common.specs.Kit.{◌-◌, refl, eqb, get_or, rules}
 use Rattle.audit.specs.Check.{all, all_say}
 use Rattle.audit.proofs.Loops.{Gathered, gather-next, gather-ends}
 use Rattle.audit.proofs.tiles.all_say.Statement.{statement}
@@ -28,11 +28,11 @@ all-say-spec =
     (tie.spec
     invariant-loop
     decreases-loop
-    (λ c κs. search needs)
+    (λ c κs. search rules)
     loop-holds
-    (λ c. search needs)
-    (λ c. search needs)
-    (λ c. search needs)
-    (λ c. search needs)
+    (λ c. search rules)
+    (λ c. search rules)
+    (λ c. search rules)
+    (λ c. search rules)
     loop-again
     returns)

@@ -1,5 +1,5 @@
 -- `audit::tiles::block_at` meets its contract: the tests are those of `block_at`.
-use Rattle.common.specs.Kit.{◌+◌, ◌^◌, ◌≤◌, ◌<◌, pow_pos, le_refl, arith, needs, eq-eqb, ne_eqb, lt-ltb, le-ltb, le-leb, lt-leb}
+use Rattle.common.specs.Kit.{◌+◌, ◌^◌, ◌≤◌, ◌<◌, pow_pos, le_refl, arith, rules, eq-eqb, ne_eqb, lt-ltb, le-ltb, le-leb, lt-leb}
 use Rattle.audit.specs.Check.{block_at}
 use Rattle.audit.proofs.Tiling.{all-span}
 use Rattle.audit.proofs.tiles.block_at.Statement.{statement}
@@ -49,12 +49,12 @@ block-at-spec =
     tie.close
     (tie.spec
     returns
-    (λ c κs. search needs)
+    (λ c κs. search rules)
     rem-if2
     returns-2
-    (λ c. search needs)
+    (λ c. search rules)
     returns-3
-    (λ c. search needs)
-    (λ c. search needs)
-    (λ c κs. search needs)
+    (λ c. search rules)
+    (λ c. search rules)
+    (λ c κs. search rules)
     returns-4)

@@ -1,5 +1,5 @@
 -- `heap::reads::layout_from_ptr` meets its contract: the audit's answer picks the case of `lookup_promise`.
-use Rattle.common.specs.Kit.{needs}
+use Rattle.common.specs.Kit.{rules}
 use Rattle.heap.specs.Promise.{lookup_promise}
 use Rattle.heap.proofs.Audited.{passed, audit-passes, audit-refuses}
 use Rattle.heap.proofs.reads.layout_from_ptr.Statement.{statement}
@@ -22,9 +22,9 @@ pub layout-from-ptr-spec : {M : Type 1} → statement M
 layout-from-ptr-spec =
     tie.close
     (tie.spec
-    (λ c κs. search needs)
-    (λ c. search needs)
-    (λ c. search needs)
+    (λ c κs. search rules)
+    (λ c. search rules)
+    (λ c. search rules)
     layout-from-ptr-requires
     returns
     returns-2)

@@ -1,5 +1,5 @@
 -- `heap::reads::memory_info` meets its contract: the audit's answer picks the case of `report_promise`.
-use Rattle.common.specs.Kit.{needs}
+use Rattle.common.specs.Kit.{rules}
 use Rattle.heap.specs.Promise.{report_promise}
 use Rattle.heap.proofs.Audited.{audit-passes, audit-refuses}
 use Rattle.heap.proofs.reads.memory_info.Statement.{statement}
@@ -17,4 +17,4 @@ returns-2 c =
 
 pub memory-info-spec : {M : Type 1} → statement M
 memory-info-spec =
-    tie.close (tie.spec (λ c κs. search needs) (λ c. search needs) (λ c. search needs) returns returns-2)
+    tie.close (tie.spec (λ c κs. search rules) (λ c. search rules) (λ c. search rules) returns returns-2)

@@ -1,5 +1,5 @@
 -- `heap::requests::free_page` meets its contract: the audit's answer picks the case of `promise`.
-use Rattle.common.specs.Kit.{needs}
+use Rattle.common.specs.Kit.{rules}
 use Rattle.heap.specs.Promise.{promise}
 use Rattle.heap.proofs.Audited.{passed, audit-passes, audit-refuses}
 use Rattle.heap.proofs.requests.free_page.Statement.{statement}
@@ -24,11 +24,11 @@ pub free-page-spec : {M : Type 1} → statement M
 free-page-spec =
     tie.close
     (tie.spec
-    (λ c κs. search needs)
-    (λ c. search needs)
-    (λ c. search needs)
+    (λ c κs. search rules)
+    (λ c. search rules)
+    (λ c. search rules)
     free-page-requires
-    (λ c. search needs)
+    (λ c. search rules)
     returns
-    (λ c. search needs)
+    (λ c. search rules)
     returns-2)

@@ -1,5 +1,5 @@
 -- `heap::start::root_mem_init` meets its contract, by the laws `sets-code` and `refuses-code`.
-use Rattle.common.specs.Kit.{sym, ap, ◌∙◌, [], needs}
+use Rattle.common.specs.Kit.{sym, ap, ◌∙◌, [], rules}
 use Rattle.sound_calls.specs.Answer.{ok, done}
 use Rattle.sound_calls.specs.Code.{leaves}
 use Rattle.heap.proofs.SetUps.{set-up-limits, sets-code, refuses-code}
@@ -24,11 +24,11 @@ pub root-mem-init-spec : {M : Type 1} → statement M
 root-mem-init-spec =
     tie.close
     (tie.spec
-    (λ c κs. search needs)
-    (λ c. search needs)
-    (λ c. search needs)
-    (λ c κs. search needs)
+    (λ c κs. search rules)
+    (λ c. search rules)
+    (λ c. search rules)
+    (λ c κs. search rules)
     returns
     init-memory-requires
-    (λ c. search needs)
+    (λ c. search rules)
     returns-2)

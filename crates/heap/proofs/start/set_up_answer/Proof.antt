@@ -1,5 +1,5 @@
 -- `heap::start::set_up_answer` meets its contract: the tests are those of `set_up_answer`, one by one.
-use Rattle.common.specs.Kit.{◌+◌, ◌-◌, ◌*◌, ◌%◌, ◌^◌, ◌≤◌, ◌≡◌, true, ◌&&◌, eqb, leb, arith, needs, eq-eqb, ne_eqb, le-leb, lt-leb}
+use Rattle.common.specs.Kit.{◌+◌, ◌-◌, ◌*◌, ◌%◌, ◌^◌, ◌≤◌, ◌≡◌, true, ◌&&◌, eqb, leb, arith, rules, eq-eqb, ne_eqb, le-leb, lt-leb}
 use Rattle.region.specs.Layout.{max_pages}
 use Rattle.region.proofs.Limits.{good-small}
 use Rattle.audit.proofs.Loops.{failed, passed}
@@ -74,7 +74,7 @@ pub set-up-answer-spec : {M : Type 1} → statement M
 set-up-answer-spec =
     tie.close
     (tie.spec
-    (λ c κs. search needs)
+    (λ c κs. search rules)
     returns
     returns-2
     returns-3

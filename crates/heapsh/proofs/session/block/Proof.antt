@@ -1,6 +1,6 @@
 -- `heapsh::session::block` meets its contract. The loop's invariant: a line starts at `at` and ends at `end`, within the text, and the buffers
 -- keep their lengths. The measure is what is left of the text.
-use Rattle.common.specs.Kit.{◌-◌, ◌≤◌, ◌≡◌, length, needs}
+use Rattle.common.specs.Kit.{◌-◌, ◌≤◌, ◌≡◌, length, rules}
 use Rattle.heapsh.proofs.session.block.Statement.{statement}
 use Rattle.heapsh.proofs.session.block.Tie as tie
 
@@ -16,21 +16,21 @@ block_spec =
     (tie.spec
     invariant-loop
     decreases-loop
-    (λ c κs. search needs)
-    (λ c. search needs)
-    (λ c. search needs)
-    (λ c. search needs)
-    (λ c. search needs)
-    (λ c. search needs)
-    (λ c κs. search needs)
-    (λ c. search needs)
-    (λ c. search needs)
-    (λ c. search needs)
-    (λ c. search needs)
-    (λ c κs. search needs)
-    (λ c κs. search needs)
-    (λ c. search needs)
-    (λ c. search needs)
-    (λ c. search needs)
-    (λ c. search needs)
-    (λ c. search needs))
+    (λ c κs. search rules)
+    (λ c. search rules)
+    (λ c. search rules)
+    (λ c. search rules)
+    (λ c. search rules)
+    (λ c. search rules)
+    (λ c κs. search rules)
+    (λ c. search rules)
+    (λ c. search rules)
+    (λ c. search rules)
+    (λ c. search rules)
+    (λ c κs. search rules)
+    (λ c κs. search rules)
+    (λ c. search rules)
+    (λ c. search rules)
+    (λ c. search rules)
+    (λ c. search rules)
+    (λ c. search rules))

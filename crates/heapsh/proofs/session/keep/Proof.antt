@@ -1,5 +1,5 @@
 -- `heapsh::session::keep` ends and is safe. The loop's invariant: the buffer keeps its length.
-use Rattle.common.specs.Kit.{◌-◌, ◌≡◌, length, needs}
+use Rattle.common.specs.Kit.{◌-◌, ◌≡◌, length, rules}
 use Rattle.heapsh.proofs.session.keep.Statement.{statement}
 use Rattle.heapsh.proofs.session.keep.Tie as tie
 
@@ -15,15 +15,15 @@ keep_spec =
     (tie.spec
     invariant-loop
     decreases-loop
-    (λ c. search needs)
-    (λ c. search needs)
-    (λ c. search needs)
-    (λ c. search needs)
-    (λ c. search needs)
-    (λ c. search needs)
-    (λ c. search needs)
-    (λ c. search needs)
-    (λ c. search needs)
-    (λ c. search needs)
-    (λ c. search needs)
-    (λ c. search needs))
+    (λ c. search rules)
+    (λ c. search rules)
+    (λ c. search rules)
+    (λ c. search rules)
+    (λ c. search rules)
+    (λ c. search rules)
+    (λ c. search rules)
+    (λ c. search rules)
+    (λ c. search rules)
+    (λ c. search rules)
+    (λ c. search rules)
+    (λ c. search rules))

@@ -1,5 +1,5 @@
 -- `heapsh::session::serve` ends and is safe. The loop's invariant: the buffers keep their lengths.
-use Rattle.common.specs.Kit.{◌≡◌, length, needs}
+use Rattle.common.specs.Kit.{◌≡◌, length, rules}
 use Rattle.heapsh.proofs.session.serve.Statement.{statement}
 use Rattle.heapsh.proofs.session.serve.Tie as tie
 
@@ -15,17 +15,17 @@ serve-spec =
     (tie.spec
     invariant-loop
     decreases-loop
-    (λ c κs. search needs)
-    (λ c. search needs)
-    (λ c κs. search needs)
-    (λ c. search needs)
-    (λ c. search needs)
-    (λ c. search needs)
-    (λ c. search needs)
-    (λ c. search needs)
-    (λ c. search needs)
-    (λ c. search needs)
-    (λ c. search needs)
-    (λ c. search needs)
-    (λ c. search needs)
-    (λ c. search needs))
+    (λ c κs. search rules)
+    (λ c. search rules)
+    (λ c κs. search rules)
+    (λ c. search rules)
+    (λ c. search rules)
+    (λ c. search rules)
+    (λ c. search rules)
+    (λ c. search rules)
+    (λ c. search rules)
+    (λ c. search rules)
+    (λ c. search rules)
+    (λ c. search rules)
+    (λ c. search rules)
+    (λ c. search rules))

@@ -1,5 +1,5 @@
 -- `heapsh::terminal::is_silent` ends and is safe. The loop's invariant: `i` is within the line.
-use Rattle.common.specs.Kit.{◌-◌, ◌≤◌, length, needs}
+use Rattle.common.specs.Kit.{◌-◌, ◌≤◌, length, rules}
 use Rattle.heapsh.proofs.terminal.is_silent.Statement.{statement}
 use Rattle.heapsh.proofs.terminal.is_silent.Tie as tie
 
@@ -15,10 +15,10 @@ is-silent-spec =
     (tie.spec
     invariant-loop
     decreases-loop
-    (λ c. search needs)
-    (λ c. search needs)
-    (λ c. search needs)
-    (λ c. search needs)
-    (λ c. search needs)
-    (λ c. search needs)
-    (λ c. search needs))
+    (λ c. search rules)
+    (λ c. search rules)
+    (λ c. search rules)
+    (λ c. search rules)
+    (λ c. search rules)
+    (λ c. search rules)
+    (λ c. search rules))

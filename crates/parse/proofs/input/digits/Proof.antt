@@ -1,5 +1,5 @@
 -- `parse::input::digits` meets its contract: what the whole word says is what the digits that are left say after those that are read.
-use Rattle.common.specs.Kit.{◌-◌, ◌^◌, ◌<◌, ◌≡◌, and-false, length, drop, arith, needs, le-leb, lt-leb}
+use Rattle.common.specs.Kit.{◌-◌, ◌^◌, ◌<◌, ◌≡◌, and-false, length, drop, arith, rules, le-leb, lt-leb}
 use native.Mathlib.Nat.{le-div_iff_mul-le, div-lt_iff_lt-mul}
 use Rattle.parse.specs.Line.{number_of}
 use Rattle.parse.proofs.Numbers.{number_from, number-next, number-bad, number-big, number-ends}
@@ -64,15 +64,15 @@ digits-spec =
     returns
     returns-2
     loop-holds
-    (λ c. search needs)
-    (λ c κs. search needs)
+    (λ c. search rules)
+    (λ c κs. search rules)
     returns-3
-    (λ c. search needs)
-    (λ c. search needs)
+    (λ c. search rules)
+    (λ c. search rules)
     returns-4
     (λ c. omega (arith, add-n c))
     add-n
-    (λ c. search needs)
-    (λ c. search needs)
+    (λ c. search rules)
+    (λ c. search rules)
     loop-again
     (λ c. number-ends _ _ _ _ c.before.loop.invariant.1 c.loop-test.false c.before.loop.invariant.0))

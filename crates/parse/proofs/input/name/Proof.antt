@@ -1,6 +1,6 @@
 -- `parse::input::name` meets its contract: what the whole word says is what the letters that are left say after those that are read,
 -- and i of them are below 256 to the power i.
-use Rattle.common.specs.Kit.{◌-◌, ◌^◌, ◌<◌, ◌≡◌, length, drop, pow-suc, add-one, arith, needs, le-leb, lt-leb}
+use Rattle.common.specs.Kit.{◌-◌, ◌^◌, ◌<◌, ◌≡◌, length, drop, pow-suc, add-one, arith, rules, le-leb, lt-leb}
 use native.Mathlib.Nat.{pow-le-pow_right}
 use Rattle.parse.specs.Line.{name_of}
 use Rattle.parse.proofs.Numbers.{name_from, name-next, name-none, name-ends}
@@ -47,12 +47,12 @@ name-spec =
     decreases-loop
     returns
     loop-holds
-    (λ c. search needs)
+    (λ c. search rules)
     returns-2
     (λ c. omega (arith, add-n c))
     (λ c. omega (arith, c.before.shared-slice-known.given c.before.before.before.loop.i))
     add-n
-    (λ c. search needs)
-    (λ c. search needs)
+    (λ c. search rules)
+    (λ c. search rules)
     loop-again
     (λ c. name-ends _ _ _ c.before.loop.invariant.1 c.loop-test.false))

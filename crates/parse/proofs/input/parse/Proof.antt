@@ -1,5 +1,5 @@
 -- `parse::input::parse` meets its contract: what the line says is what the words that are left say after those that are read.
-use Rattle.common.specs.Kit.{◌-◌, ◌≤◌, ◌≡◌, refl, sym, ap, ◌∙◌, length, length-set, arith, needs, le-leb, lt-leb}
+use Rattle.common.specs.Kit.{◌-◌, ◌≤◌, ◌≡◌, refl, sym, ap, ◌∙◌, length, length-set, arith, rules, le-leb, lt-leb}
 use Rattle.parse.specs.Line.{words_of, parsed}
 use Rattle.parse.proofs.Words.{length_from, words-none, words-next}
 use Rattle.parse.proofs.Asked.{asked_from, asked-all, asked-end, asked-many, asked-bad, asked-good}
@@ -68,33 +68,33 @@ parse-spec =
     (tie.spec
     invariant-loop
     decreases-loop
-    (λ c κs. search needs)
+    (λ c κs. search rules)
     returns
     loop-holds
-    (λ c κs. search needs)
-    (λ c. search needs)
-    (λ c. search needs)
-    (λ c. search needs)
+    (λ c κs. search rules)
+    (λ c. search rules)
+    (λ c. search rules)
+    (λ c. search rules)
     returns-2
-    (λ c κs. search needs)
-    (λ c. search needs)
-    (λ c. search needs)
-    (λ c. search needs)
-    (λ c. search needs)
-    (λ c κs. search needs)
-    (λ c. search needs)
-    (λ c. search needs)
-    (λ c κs. search needs)
+    (λ c κs. search rules)
+    (λ c. search rules)
+    (λ c. search rules)
+    (λ c. search rules)
+    (λ c. search rules)
+    (λ c κs. search rules)
+    (λ c. search rules)
+    (λ c. search rules)
+    (λ c κs. search rules)
     returns-3
-    (λ c. search needs)
-    (λ c. search needs)
-    (λ c. search needs)
-    (λ c. search needs)
-    (λ c. search needs)
-    (λ c. search needs)
-    (λ c. search needs)
+    (λ c. search rules)
+    (λ c. search rules)
+    (λ c. search rules)
+    (λ c. search rules)
+    (λ c. search rules)
+    (λ c. search rules)
+    (λ c. search rules)
     loop-again
-    (λ c κs. search needs)
-    (λ c κs. search needs)
+    (λ c κs. search rules)
+    (λ c κs. search rules)
     returns-4
     returns-5)

@@ -1,5 +1,5 @@
 -- `parse::input::run` meets its contract: what is left of the run is the run of what is left.
-use Rattle.common.specs.Kit.{◌+◌, ◌-◌, ◌≤◌, ◌≡◌, sym, length, drop, zero-add, arith, needs, not-true, not-false}
+use Rattle.common.specs.Kit.{◌+◌, ◌-◌, ◌≤◌, ◌≡◌, sym, length, drop, zero-add, arith, rules, not-true, not-false}
 use Rattle.parse.specs.Line.{run_of}
 use Rattle.parse.proofs.Words.{run_more, run-stops, run_ends}
 use Rattle.parse.proofs.input.run.Statement.{statement}
@@ -27,11 +27,11 @@ run_spec =
     (tie.spec
     invariant-loop
     decreases-loop
-    (λ c. (search needs, sym (zero-add _)))
-    (λ c. search needs)
-    (λ c κs. search needs)
+    (λ c. (search rules, sym (zero-add _)))
+    (λ c. search rules)
+    (λ c κs. search rules)
     returns
-    (λ c. search needs)
-    (λ c. search needs)
+    (λ c. search rules)
+    (λ c. search rules)
     loop-again
     (λ c. let l = c.before.loop in (l.invariant.0, run_ends _ _ _ l.invariant.1 c.loop-test.false)))

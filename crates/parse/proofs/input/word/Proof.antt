@@ -1,5 +1,5 @@
 -- `parse::input::word` meets its contract: the arms of the match are the cases of the definition.
-use Rattle.common.specs.Kit.{needs, eq-eqb, ne_eqb}
+use Rattle.common.specs.Kit.{rules, eq-eqb, ne_eqb}
 use Rattle.parse.specs.Line.{says_at}
 use Rattle.parse.proofs.input.word.Statement.{statement}
 use Rattle.parse.proofs.input.word.Tie as tie
@@ -9,15 +9,15 @@ unfolding says_at
 word-spec =
     tie.close
     (tie.spec
-    (λ c κs. search needs)
-    (λ c. search (needs, eq-eqb))
-    (λ c κs. search needs)
-    (λ c κs. search needs)
-    (λ c κs. search needs)
-    (λ c κs. search needs)
-    (λ c κs. search needs)
-    (λ c κs. search needs)
-    (λ c. search (needs, eq-eqb, ne_eqb))
+    (λ c κs. search rules)
+    (λ c. search (rules, eq-eqb))
+    (λ c κs. search rules)
+    (λ c κs. search rules)
+    (λ c κs. search rules)
+    (λ c κs. search rules)
+    (λ c κs. search rules)
+    (λ c κs. search rules)
+    (λ c. search (rules, eq-eqb, ne_eqb))
     (λ c. simp (c.before.before.match.keys2, c.decimal.ensures, c.before.if2.true))
     (λ c.
     let m = c.before.before in
@@ -26,4 +26,4 @@ word-spec =
     (λ c.
     let m = c.before.before in
     simp (m.match.keys3, c.decimal2.ensures, ne_eqb _ 0 m.before.if1.false, ne_eqb _ 1 c.before.if3.false))
-    (λ c. search (needs, ne_eqb)))
+    (λ c. search (rules, ne_eqb)))

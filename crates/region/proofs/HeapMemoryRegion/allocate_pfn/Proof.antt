@@ -1,5 +1,5 @@
 -- `region::HeapMemoryRegion::allocate_pfn` meets its contract: the tests and what the walk finds pick the case of `pull`.
-use Rattle.common.specs.Kit.{refl, sym, ◌∙◌, needs, eq-eqb, ne_eqb}
+use Rattle.common.specs.Kit.{refl, sym, ◌∙◌, rules, eq-eqb, ne_eqb}
 use Rattle.region.specs.State.{pull, pulls}
 use Rattle.region.proofs.HeapMemoryRegion.allocate_pfn.Statement.{statement}
 use Rattle.region.proofs.HeapMemoryRegion.allocate_pfn.Tie as tie
@@ -48,19 +48,19 @@ pub allocate-pfn-spec : {M : Type 1} → statement M
 allocate-pfn-spec =
     tie.close
     (tie.spec
-    (λ c. search needs)
-    (λ c. search needs)
+    (λ c. search rules)
+    (λ c. search rules)
     returns
-    (λ c κs. search needs)
-    (λ c. search needs)
+    (λ c κs. search rules)
+    (λ c. search rules)
     returns-2
-    (λ c. search needs)
-    (λ c. search needs)
+    (λ c. search rules)
+    (λ c. search rules)
     page-before-requires
-    (λ c. search needs)
-    (λ c. search needs)
-    (λ c. search needs)
+    (λ c. search rules)
+    (λ c. search rules)
+    (λ c. search rules)
     returns-3
     cut-page-requires
-    (λ c. search needs)
+    (λ c. search rules)
     returns-4)

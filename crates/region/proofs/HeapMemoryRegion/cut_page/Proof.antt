@@ -1,5 +1,5 @@
 -- `region::HeapMemoryRegion::cut_page` meets its contract, by what its callees ensure.
-use Rattle.common.specs.Kit.{needs}
+use Rattle.common.specs.Kit.{rules}
 use Rattle.region.specs.State.{cut}
 use Rattle.region.proofs.HeapMemoryRegion.cut_page.Statement.{statement}
 use Rattle.region.proofs.HeapMemoryRegion.cut_page.Tie as tie
@@ -15,14 +15,14 @@ pub cut-page-spec : {M : Type 1} → statement M
 cut-page-spec =
     tie.close
     (tie.spec
-    (λ c κs. search needs)
-    (λ c κs. search needs)
-    (λ c κs. search needs)
-    (λ c. search needs)
-    (λ c. search needs)
-    (λ c. search needs)
-    (λ c. search needs)
-    (λ c. search needs)
-    (λ c κs. search needs)
-    (λ c. search needs)
+    (λ c κs. search rules)
+    (λ c κs. search rules)
+    (λ c κs. search rules)
+    (λ c. search rules)
+    (λ c. search rules)
+    (λ c. search rules)
+    (λ c. search rules)
+    (λ c. search rules)
+    (λ c κs. search rules)
+    (λ c. search rules)
     returns)

@@ -1,5 +1,5 @@
 -- `region::HeapMemoryRegion::free_page_raw` meets its contract, by what its callees ensure.
-use Rattle.common.specs.Kit.{needs}
+use Rattle.common.specs.Kit.{rules}
 use Rattle.region.specs.State.{put_head}
 use Rattle.region.proofs.HeapMemoryRegion.free_page_raw.Statement.{statement}
 use Rattle.region.proofs.HeapMemoryRegion.free_page_raw.Tie as tie
@@ -12,12 +12,12 @@ pub free-page-raw-spec : {M : Type 1} → statement M
 free-page-raw-spec =
     tie.close
     (tie.spec
-    (λ c. search needs)
-    (λ c. search needs)
-    (λ c κs. search needs)
-    (λ c. search needs)
-    (λ c. search needs)
-    (λ c. search needs)
-    (λ c κs. search needs)
-    (λ c. search needs)
+    (λ c. search rules)
+    (λ c. search rules)
+    (λ c κs. search rules)
+    (λ c. search rules)
+    (λ c. search rules)
+    (λ c. search rules)
+    (λ c κs. search rules)
+    (λ c. search rules)
     returns)

@@ -1,5 +1,5 @@
 -- `region::HeapMemoryRegion::get_next_page` meets its contract: the test for no page picks the case of `take_head`.
-use Rattle.common.specs.Kit.{refl, needs, eq-eqb, ne_eqb}
+use Rattle.common.specs.Kit.{refl, rules, eq-eqb, ne_eqb}
 use Rattle.region.specs.State.{take_head, head_taken}
 use Rattle.region.proofs.HeapMemoryRegion.get_next_page.Statement.{statement}
 use Rattle.region.proofs.HeapMemoryRegion.get_next_page.Tie as tie
@@ -30,14 +30,14 @@ pub get-next-page-spec : {M : Type 1} → statement M
 get-next-page-spec =
     tie.close
     (tie.spec
-    (λ c. search needs)
-    (λ c. search needs)
+    (λ c. search rules)
+    (λ c. search rules)
     returns
     next-free-pfn-requires
     write-page-info-requires
-    (λ c. search needs)
-    (λ c. search needs)
+    (λ c. search rules)
+    (λ c. search rules)
     sub-with-list
-    (λ c κs. search needs)
-    (λ c. search needs)
+    (λ c κs. search rules)
+    (λ c. search rules)
     returns-2)

@@ -1,5 +1,5 @@
 -- `region::HeapMemoryRegion::merge_pages` meets its contract, by what its callees ensure.
-use Rattle.common.specs.Kit.{◌+◌, pow_pos, add-one, arith, needs}
+use Rattle.common.specs.Kit.{◌+◌, pow_pos, add-one, arith, rules}
 use Rattle.region.specs.State.{merge}
 use Rattle.region.proofs.HeapMemoryRegion.merge_pages.Statement.{statement}
 use Rattle.region.proofs.HeapMemoryRegion.merge_pages.Tie as tie
@@ -29,17 +29,17 @@ pub merge-pages-spec : {M : Type 1} → statement M
 merge-pages-spec =
     tie.close
     (tie.spec
-    (λ c. search needs)
-    (λ c κs. search needs)
+    (λ c. search rules)
+    (λ c κs. search rules)
     write-page-info-requires
-    (λ c κs. search needs)
-    (λ c. search needs)
-    (λ c. search needs)
-    (λ c. search needs)
-    (λ c. search needs)
-    (λ c. search needs)
-    (λ c κs. search needs)
-    (λ c. search needs)
-    (λ c κs. search needs)
-    (λ c. search needs)
+    (λ c κs. search rules)
+    (λ c. search rules)
+    (λ c. search rules)
+    (λ c. search rules)
+    (λ c. search rules)
+    (λ c. search rules)
+    (λ c κs. search rules)
+    (λ c. search rules)
+    (λ c κs. search rules)
+    (λ c. search rules)
     returns)

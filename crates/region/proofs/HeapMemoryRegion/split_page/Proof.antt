@@ -1,5 +1,5 @@
 -- `region::HeapMemoryRegion::split_page` meets its contract, by what its callees ensure.
-use Rattle.common.specs.Kit.{suc, ◌-◌, ◌≡◌, ◌∙◌, arith, needs}
+use Rattle.common.specs.Kit.{suc, ◌-◌, ◌≡◌, ◌∙◌, arith, rules}
 use Rattle.region.specs.State.{split}
 use Rattle.region.proofs.HeapMemoryRegion.split_page.Statement.{statement}
 use Rattle.region.proofs.HeapMemoryRegion.split_page.Tie as tie
@@ -40,23 +40,23 @@ pub split-page-spec : {M : Type 1} → statement M
 split-page-spec =
     tie.close
     (tie.spec
-    (λ c. search needs)
-    (λ c κs. search needs)
-    (λ c. search needs)
-    (λ c. search needs)
-    (λ c. search needs)
-    (λ c κs. search needs)
-    (λ c κs. search needs)
-    (λ c. search needs)
-    (λ c. search needs)
-    (λ c. search needs)
-    (λ c. search needs)
-    (λ c. search needs)
-    (λ c. search needs)
-    (λ c. search needs)
-    (λ c κs. search needs)
-    (λ c. search needs)
-    (λ c κs. search needs)
+    (λ c. search rules)
+    (λ c κs. search rules)
+    (λ c. search rules)
+    (λ c. search rules)
+    (λ c. search rules)
+    (λ c κs. search rules)
+    (λ c κs. search rules)
+    (λ c. search rules)
+    (λ c. search rules)
+    (λ c. search rules)
+    (λ c. search rules)
+    (λ c. search rules)
+    (λ c. search rules)
+    (λ c. search rules)
+    (λ c κs. search rules)
+    (λ c. search rules)
+    (λ c κs. search rules)
     add-with-list
     with-list-requires
     same_length

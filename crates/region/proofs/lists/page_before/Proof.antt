@@ -1,6 +1,6 @@
 -- `region::lists::page_before` meets its contract. The loop's invariant: what is looked for is what the rest of the walk finds, and that
 -- walk is safe. The measure is the steps left.
-use Rattle.common.specs.Kit.{◌≡◌, refl, sym, ◌∙◌, arith, needs, eq-eqb, ne_eqb}
+use Rattle.common.specs.Kit.{◌≡◌, refl, sym, ◌∙◌, arith, rules, eq-eqb, ne_eqb}
 use Rattle.region.specs.State.{page_before, WalkOk}
 use Rattle.region.proofs.Walk.{before-step, walk_step}
 use Rattle.region.proofs.lists.page_before.Statement.{statement}
@@ -33,10 +33,10 @@ returns-2 c =
     ∙ simp (ne_eqb _ _ (λ h. c.before.if1.false (e ∙ h)), eq-eqb _ _ (sym e ∙ c.if2.true)))
 
 sub-left : tie.Need-overflow-sub-left invariant-loop decreases-loop
-sub-left c = search needs
+sub-left c = search rules
 
 loop-less : tie.Need-loop-smaller invariant-loop decreases-loop
-loop-less c = search needs
+loop-less c = search rules
 
 loop-again : tie.Need-loop-preserved invariant-loop decreases-loop
 loop-again c =

@@ -1,5 +1,5 @@
 -- `shell::record::field` meets its contract: its test is the one of `with_three`.
-use Rattle.common.specs.Kit.{ℕ, ◌<◌, ◌≡◌, sym, ◌∙◌, Bool, true, false, cond, eqb, ltb, arith, needs, eqb-true, ltb-true}
+use Rattle.common.specs.Kit.{ℕ, ◌<◌, ◌≡◌, sym, ◌∙◌, Bool, true, false, cond, eqb, ltb, arith, rules, eqb-true, ltb-true}
 use Rattle.shell.specs.Request.{has_orders, has_one, has_field, with_three}
 use Rattle.shell.proofs.record.field.Statement.{statement}
 use Rattle.shell.proofs.record.field.Tie as tie
@@ -20,12 +20,12 @@ unfolding with_three
 field-spec =
     tie.close
     (tie.spec
-    (λ c κs. search needs)
+    (λ c κs. search rules)
     (λ c κs. below _ _ (sym c.before.has-field.ensures ∙ c.if1.true))
-    (λ c κs. search needs)
-    (λ c κs. search needs)
-    (λ c κs. search needs)
-    (λ c κs. search needs)
+    (λ c κs. search rules)
+    (λ c κs. search rules)
+    (λ c κs. search rules)
+    (λ c κs. search rules)
     (λ c ws.
     let b = c.before.before in
     simp (c.said.ensures, c.before.bare.ensures, b.with-field.ensures, sym b.before.before.has-field.ensures ∙ b.before.if1.true))

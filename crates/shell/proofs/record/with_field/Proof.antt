@@ -1,5 +1,5 @@
 -- `shell::record::with_field` meets its contract: each arm writes the field of its name.
-use Rattle.common.specs.Kit.{needs, ne_eqb}
+use Rattle.common.specs.Kit.{rules, ne_eqb}
 use Rattle.shell.specs.Request.{with_field}
 use Rattle.shell.proofs.record.with_field.Statement.{statement}
 use Rattle.shell.proofs.record.with_field.Tie as tie
@@ -9,12 +9,12 @@ unfolding with_field
 with-field-spec =
     tie.close
     (tie.spec
-    (λ c. search needs)
-    (λ c. search needs)
-    (λ c. search needs)
-    (λ c. search needs)
-    (λ c. search needs)
-    (λ c. search needs)
+    (λ c. search rules)
+    (λ c. search rules)
+    (λ c. search rules)
+    (λ c. search rules)
+    (λ c. search rules)
+    (λ c. search rules)
     (λ c. simp c.match.keys1)
     (λ c. simp c.match.keys2)
     (λ c. simp c.match.keys3)

@@ -1,5 +1,5 @@
 -- `shell::requests::lend` meets its contract: its test is the one of `with_number`.
-use Rattle.common.specs.Kit.{needs, le-leb, lt-leb}
+use Rattle.common.specs.Kit.{rules, le-leb, lt-leb}
 use Rattle.shell.specs.Request.{with_number}
 use Rattle.shell.proofs.requests.lend.Statement.{statement}
 use Rattle.shell.proofs.requests.lend.Tie as tie
@@ -9,8 +9,8 @@ unfolding with_number
 lend_spec =
     tie.close
     (tie.spec
-    (λ c κs. search needs)
-    (λ c κs. search needs)
-    (λ c κs. search needs)
+    (λ c κs. search rules)
+    (λ c κs. search rules)
+    (λ c κs. search rules)
     (λ c ws. simp c.empty-region.ensures (search le-leb))
     (λ c ws. simp (c.said.ensures, c.before.bad.ensures) (search lt-leb)))

@@ -1,5 +1,5 @@
 -- `shell::requests::plain` meets its contract: the arms of the match are the cases of the definition.
-use Rattle.common.specs.Kit.{ℕ, ◌≡◌, refl, List, [], ◌∷◌, needs, ne_eqb}
+use Rattle.common.specs.Kit.{ℕ, ◌≡◌, refl, List, [], ◌∷◌, rules, ne_eqb}
 use Rattle.parse.specs.Names as Name
 use Rattle.shell.specs.Request.{did, alone}
 use Rattle.shell.specs.declared.steps.Reply.{Reply}
@@ -16,19 +16,19 @@ unfolding alone
 plain-spec =
     tie.close
     (tie.spec
-    (λ c κs. search needs)
-    (λ c κs. search needs)
-    (λ c κs. search needs)
-    (λ c κs. search needs)
-    (λ c κs. search needs)
-    (λ c κs. search needs)
-    (λ c κs. search needs)
-    (λ c κs. search needs)
-    (λ c. search needs)
+    (λ c κs. search rules)
+    (λ c κs. search rules)
+    (λ c κs. search rules)
+    (λ c κs. search rules)
+    (λ c κs. search rules)
+    (λ c κs. search rules)
+    (λ c κs. search rules)
+    (λ c κs. search rules)
+    (λ c. search rules)
     (λ c.
     let call = c.before.before.before.before.before in
     simp (call.before.before.match.keys1, c.told.ensures, c.before.of-grant.ensures, ← call.allocate-file-page.ensures))
-    (λ c. search needs)
+    (λ c. search rules)
     (λ c.
     let call = c.before.before in
     simp (call.before.before.match.keys2, c.told2.ensures, c.before.of-done.ensures, call.audit.ensures))

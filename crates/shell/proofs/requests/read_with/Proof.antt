@@ -1,5 +1,5 @@
 -- `shell::requests::read_with` meets its contract: the arms of the match are the cases of the definition.
-use Rattle.common.specs.Kit.{needs, ne_eqb}
+use Rattle.common.specs.Kit.{rules, ne_eqb}
 use Rattle.shell.specs.Request.{reads}
 use Rattle.shell.proofs.requests.read_with.Statement.{statement}
 use Rattle.shell.proofs.requests.read_with.Tie as tie
@@ -9,15 +9,15 @@ unfolding reads
 read-with-spec =
     tie.close
     (tie.spec
-    (λ c κs. search needs)
-    (λ c κs. search needs)
-    (λ c κs. search needs)
-    (λ c κs. search needs)
-    (λ c κs. search needs)
-    (λ c κs. search needs)
-    (λ c κs. search needs)
-    (λ c κs. search needs)
-    (λ c κs. search needs)
+    (λ c κs. search rules)
+    (λ c κs. search rules)
+    (λ c κs. search rules)
+    (λ c κs. search rules)
+    (λ c κs. search rules)
+    (λ c κs. search rules)
+    (λ c κs. search rules)
+    (λ c κs. search rules)
+    (λ c κs. search rules)
     (λ c.
     let call = c.before.before in
     simp (call.before.match.keys1, c.of-answer.ensures, c.before.of-layout.ensures, call.layout-from-ptr.ensures))

@@ -1,5 +1,5 @@
 -- `shell::requests::with_three` meets its contract: the arms of the match are the cases of the definition.
-use Rattle.common.specs.Kit.{needs, ne_eqb}
+use Rattle.common.specs.Kit.{rules, ne_eqb}
 use Rattle.shell.specs.Request.{with_three}
 use Rattle.shell.proofs.requests.with_three.Statement.{statement}
 use Rattle.shell.proofs.requests.with_three.Tie as tie
@@ -9,16 +9,16 @@ unfolding with_three
 with-three-spec =
     tie.close
     (tie.spec
-    (λ c κs. search needs)
-    (λ c κs. search needs)
-    (λ c κs. search needs)
-    (λ c κs. search needs)
-    (λ c κs. search needs)
-    (λ c κs. search needs)
-    (λ c κs. search needs)
-    (λ c κs. search needs)
-    (λ c κs. search needs)
-    (λ c. search needs)
+    (λ c κs. search rules)
+    (λ c κs. search rules)
+    (λ c κs. search rules)
+    (λ c κs. search rules)
+    (λ c κs. search rules)
+    (λ c κs. search rules)
+    (λ c κs. search rules)
+    (λ c κs. search rules)
+    (λ c κs. search rules)
+    (λ c. search rules)
     (λ c.
     let call = c.before.before.before.before.before in
     simp (call.before.before.match.keys1, c.told.ensures, c.before.of-done.ensures, ← call.root-mem-init.ensures))

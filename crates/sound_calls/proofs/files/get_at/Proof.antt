@@ -1,5 +1,5 @@
 -- `sound_calls::files::get_at` meets its contract: what the word says and its count pick the case.
-use Rattle.common.specs.Kit.{refl, sym, ◌∙◌, needs, le-leb, lt-leb}
+use Rattle.common.specs.Kit.{refl, sym, ◌∙◌, rules, le-leb, lt-leb}
 use Rattle.pages.proofs.Patterns.{through, not-file}
 use Rattle.sound_calls.specs.Files.{got_count, got_words}
 use Rattle.sound_calls.proofs.files.get_at.Statement.{statement}
@@ -35,18 +35,18 @@ pub get-at-spec : {M : Type 1} → statement M
 get-at-spec =
     tie.close
     (tie.spec
-    (λ c κs. search needs)
-    (λ c. search needs)
-    (λ c. search needs)
-    (λ c. search needs)
+    (λ c κs. search rules)
+    (λ c. search rules)
+    (λ c. search rules)
+    (λ c. search rules)
     returns
-    (λ c. search needs)
-    (λ c. search needs)
+    (λ c. search rules)
+    (λ c. search rules)
     returns-2
-    (λ c. search needs)
+    (λ c. search rules)
     returns-3
-    (λ c. search needs)
-    (λ c κs. search needs)
-    (λ c. search needs)
-    (λ c. search needs)
+    (λ c. search rules)
+    (λ c κs. search rules)
+    (λ c. search rules)
+    (λ c. search rules)
     returns-4)

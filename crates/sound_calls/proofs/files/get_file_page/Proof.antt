@@ -1,5 +1,5 @@
 -- `sound_calls::files::get_file_page` meets its contract, by the law `get-code`.
-use Rattle.common.specs.Kit.{◌≡◌, sym, ◌∙◌, arith, needs}
+use Rattle.common.specs.Kit.{◌≡◌, sym, ◌∙◌, arith, rules}
 use Rattle.words.specs.declared.place.PageAt.TheVariants.{Start}
 use Rattle.sound_calls.specs.Answer.{result_of}
 use Rattle.sound_calls.specs.Promise.{at_page, does}
@@ -42,9 +42,9 @@ pub get-file-page-spec : {M : Type 1} → statement M
 get-file-page-spec =
     tie.close
     (tie.spec
-    (λ c κs. search needs)
-    (λ c. search needs)
+    (λ c κs. search rules)
+    (λ c. search rules)
     returns
     get-at-requires
-    (λ c. search needs)
+    (λ c. search rules)
     returns-2)

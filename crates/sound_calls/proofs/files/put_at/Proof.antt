@@ -1,5 +1,5 @@
 -- `sound_calls::files::put_at` meets its contract: what the word says and its count pick the case.
-use Rattle.common.specs.Kit.{[], ◌∷◌, ◌-◌, ◌≡◌, refl, sym, ap, ◌∙◌, arith, needs, le-leb, lt-leb}
+use Rattle.common.specs.Kit.{[], ◌∷◌, ◌-◌, ◌≡◌, refl, sym, ap, ◌∙◌, arith, rules, le-leb, lt-leb}
 use Rattle.words.specs.declared.word.PageInfo.TheVariants.{File}
 use Rattle.words.specs.declared.word.Decoded.TheVariants.{Info}
 use Rattle.pages.specs.Said.{said}
@@ -53,19 +53,19 @@ pub put-at-spec : {M : Type 1} → statement M
 put-at-spec =
     tie.close
     (tie.spec
-    (λ c κs. search needs)
-    (λ c. search needs)
-    (λ c. search needs)
-    (λ c. search needs)
+    (λ c κs. search rules)
+    (λ c. search rules)
+    (λ c. search rules)
+    (λ c. search rules)
     returns
-    (λ c. search needs)
-    (λ c. search needs)
+    (λ c. search rules)
+    (λ c. search rules)
     returns-2
     free-page-order-requires
-    (λ c. search needs)
+    (λ c. search rules)
     returns-3
-    (λ c. search needs)
-    (λ c κs. search needs)
-    (λ c. search needs)
-    (λ c. search needs)
+    (λ c. search rules)
+    (λ c κs. search rules)
+    (λ c. search rules)
+    (λ c. search rules)
     returns-4)

@@ -1,5 +1,5 @@
 -- `sound_calls::files::put_file_page` meets its contract, by the law `put-code`.
-use Rattle.common.specs.Kit.{◌≡◌, sym, ◌∙◌, needs}
+use Rattle.common.specs.Kit.{◌≡◌, sym, ◌∙◌, rules}
 use Rattle.words.specs.declared.place.PageAt.TheVariants.{Start}
 use Rattle.sound_calls.specs.Promise.{at_page, does}
 use Rattle.sound_calls.specs.Code.{leaves}
@@ -41,9 +41,9 @@ pub put-file-page-spec : {M : Type 1} → statement M
 put-file-page-spec =
     tie.close
     (tie.spec
-    (λ c κs. search needs)
-    (λ c. search needs)
+    (λ c κs. search rules)
+    (λ c. search rules)
     returns
     put-at-requires
-    (λ c. search needs)
+    (λ c. search rules)
     returns-2)

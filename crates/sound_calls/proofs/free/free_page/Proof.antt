@@ -1,5 +1,5 @@
 -- `sound_calls::free::free_page` meets its contract, by the law `free-code`.
-use Rattle.common.specs.Kit.{◌≡◌, sym, ap, ◌∙◌, [], arith, needs, lt-ltb, le-ltb}
+use Rattle.common.specs.Kit.{◌≡◌, sym, ap, ◌∙◌, [], arith, rules, lt-ltb, le-ltb}
 use Rattle.words.specs.declared.place.PageAt.TheVariants.{Start}
 use Rattle.pages.specs.Said.{said}
 use Rattle.sound_calls.specs.Answer.{ok}
@@ -95,19 +95,19 @@ pub free-page-spec : {M : Type 1} → statement M
 free-page-spec =
     tie.close
     (tie.spec
-    (λ c κs. search needs)
-    (λ c. search needs)
-    (λ c κs. search needs)
+    (λ c κs. search rules)
+    (λ c. search rules)
+    (λ c κs. search rules)
     returns
-    (λ c κs. search needs)
+    (λ c κs. search rules)
     returns-2
     read-page-info-requires
-    (λ c κs. search needs)
-    (λ c. search needs)
-    (λ c. search needs)
-    (λ c κs. search needs)
-    (λ c. search needs)
+    (λ c κs. search rules)
+    (λ c. search rules)
+    (λ c. search rules)
+    (λ c κs. search rules)
+    (λ c. search rules)
     returns-3
     free-page-order-requires
-    (λ c. search needs)
+    (λ c. search rules)
     returns-4)

@@ -1,5 +1,5 @@
 -- `sound_calls::free::order_to_free` meets its contract: the arm says which constructor it is.
-use Rattle.common.specs.Kit.{sym, needs}
+use Rattle.common.specs.Kit.{sym, rules}
 use Rattle.sound_calls.proofs.Patterns.{other}
 use Rattle.sound_calls.proofs.free.order_to_free.Statement.{statement}
 use Rattle.sound_calls.proofs.free.order_to_free.Tie as tie
@@ -16,13 +16,13 @@ pub order-to-free-spec : {M : Type 1} → statement M
 order-to-free-spec =
     tie.close
     (tie.spec
-    (λ c. search needs)
-    (λ c. search needs)
-    (λ c. search needs)
-    (λ c. search needs)
-    (λ c. search needs)
-    (λ c. search needs)
+    (λ c. search rules)
+    (λ c. search rules)
+    (λ c. search rules)
+    (λ c. search rules)
+    (λ c. search rules)
+    (λ c. search rules)
     returns-2
-    (λ c. search needs)
-    (λ c. search needs)
+    (λ c. search rules)
+    (λ c. search rules)
     returns-5)

@@ -1,5 +1,5 @@
 -- `sound_calls::grants::allocate_file_page` meets its contract, by the law `file-code`.
-use Rattle.common.specs.Kit.{◌∙◌, arith, needs}
+use Rattle.common.specs.Kit.{◌∙◌, arith, rules}
 use Rattle.sound_calls.proofs.SoundInput.{SoundInput}
 use Rattle.sound_calls.proofs.Typing.{good}
 use Rattle.sound_calls.proofs.GrantLaws.{grant-ok, file-code}
@@ -16,4 +16,4 @@ returns : tie.Need-returns
 returns c = c.before.before.allocate-info.ensures ∙ file-code (state c.before.before.before.before)
 
 pub allocate-file-page-spec : {M : Type 1} → statement M
-allocate-file-page-spec = tie.close (tie.spec allocate-info-requires (λ c. search needs) returns)
+allocate-file-page-spec = tie.close (tie.spec allocate-info-requires (λ c. search rules) returns)

@@ -1,5 +1,5 @@
 -- `sound_calls::grants::allocate_info` meets its contract: the page that is granted picks the case of `code_grants`.
-use Rattle.common.specs.Kit.{sym, ap, ◌∙◌, [], needs}
+use Rattle.common.specs.Kit.{sym, ap, ◌∙◌, [], rules}
 use Rattle.sound_calls.specs.Answer.{no, grant}
 use Rattle.sound_calls.specs.Code.{leaves, code_grants}
 use Rattle.sound_calls.proofs.grants.allocate_info.Statement.{statement}
@@ -21,11 +21,11 @@ pub allocate-info-spec : {M : Type 1} → statement M
 allocate-info-spec =
     tie.close
     (tie.spec
-    (λ c κs. search needs)
-    (λ c. search needs)
-    (λ c. search needs)
-    (λ c. search needs)
+    (λ c κs. search rules)
+    (λ c. search rules)
+    (λ c. search rules)
+    (λ c. search rules)
     returns
-    (λ c κs. search needs)
-    (λ c. search needs)
+    (λ c κs. search rules)
+    (λ c. search rules)
     returns-2)

@@ -1,5 +1,5 @@
 -- `sound_calls::grants::allocate_pages` meets its contract, by the law `allocate-code`.
-use Rattle.common.specs.Kit.{◌∙◌, needs, le-ltb}
+use Rattle.common.specs.Kit.{◌∙◌, rules, le-ltb}
 use Rattle.sound_calls.specs.Promise.{does}
 use Rattle.sound_calls.proofs.SoundInput.{SoundInput}
 use Rattle.sound_calls.proofs.Typing.{good}
@@ -22,4 +22,4 @@ returns-2 : tie.Need-returns-2
 returns-2 c = c.before.before.allocate-info.ensures ∙ allocate-code (state c.before.before.before.before.before) _ c.before.before.before.before.if1.false
 
 pub allocate-pages-spec : {M : Type 1} → statement M
-allocate-pages-spec = tie.close (tie.spec returns allocate-info-requires (λ c. search needs) returns-2)
+allocate-pages-spec = tie.close (tie.spec returns allocate-info-requires (λ c. search rules) returns-2)

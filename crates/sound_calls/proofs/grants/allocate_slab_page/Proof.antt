@@ -1,5 +1,5 @@
 -- `sound_calls::grants::allocate_slab_page` meets its contract, by the laws `slab-code` and `slab-bad`.
-use Rattle.common.specs.Kit.{◌≡◌, sym, ◌∙◌, false, arith, needs}
+use Rattle.common.specs.Kit.{◌≡◌, sym, ◌∙◌, false, arith, rules}
 use Rattle.buddy.specs.Heap.{good_item}
 use Rattle.sound_calls.proofs.SoundInput.{SoundInput}
 use Rattle.sound_calls.proofs.Typing.{good}
@@ -36,12 +36,12 @@ pub allocate-slab-page-spec : {M : Type 1} → statement M
 allocate-slab-page-spec =
     tie.close
     (tie.spec
-    (λ c κs. search needs)
+    (λ c κs. search rules)
     allocate-info-requires
-    (λ c. search needs)
+    (λ c. search rules)
     returns
-    (λ c κs. search needs)
-    (λ c. search needs)
-    (λ c. search needs)
+    (λ c κs. search rules)
+    (λ c. search rules)
+    (λ c. search rules)
     returns-2
     returns-3)

@@ -1,5 +1,5 @@
 -- `sound_calls::lookup::layout_from_ptr` meets its contract: the place that `get_pfn` answers picks the case.
-use Rattle.common.specs.Kit.{sym, ◌∙◌, ⊎_elim, arith, needs}
+use Rattle.common.specs.Kit.{sym, ◌∙◌, ⊎_elim, arith, rules}
 use Rattle.sound_calls.specs.Promise.{looked_up, looks_up}
 use Rattle.sound_calls.proofs.SoundInput.{SoundInput}
 use Rattle.sound_calls.proofs.Typing.{good}
@@ -36,10 +36,10 @@ pub layout-from-ptr-spec : {M : Type 1} → statement M
 layout-from-ptr-spec =
     tie.close
     (tie.spec
-    (λ c κs. search needs)
-    (λ c. search needs)
-    (λ c. search needs)
-    (λ c. search needs)
+    (λ c κs. search rules)
+    (λ c. search rules)
+    (λ c. search rules)
+    (λ c. search rules)
     returns
     read-page-info-requires
     layout-of-requires

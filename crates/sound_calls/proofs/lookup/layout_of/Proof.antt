@@ -1,5 +1,5 @@
 -- `sound_calls::lookup::layout_of` meets its contract: the arm says which constructor it is; an order below 6 makes no size that wraps.
-use Rattle.common.specs.Kit.{sym, ap, ◌∙◌, pow_mono, arith, needs}
+use Rattle.common.specs.Kit.{sym, ap, ◌∙◌, pow_mono, arith, rules}
 use Rattle.words.specs.declared.word.Decoded.TheVariants.{Info}
 use Rattle.sound_calls.proofs.Patterns.{other}
 use Rattle.sound_calls.proofs.lookup.layout_of.Statement.{statement}
@@ -29,13 +29,13 @@ pub layout-of-spec : {M : Type 1} → statement M
 layout-of-spec =
     tie.close
     (tie.spec
-    (λ c. search needs)
-    (λ c. search needs)
+    (λ c. search rules)
+    (λ c. search rules)
     returns
-    (λ c. search needs)
+    (λ c. search rules)
     size-requires
     mul-t10
-    (λ c. search needs)
+    (λ c. search rules)
     returns-2
     returns-3
     returns-4)
