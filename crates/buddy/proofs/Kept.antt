@@ -6,7 +6,7 @@ use Rattle.common.proofs.Lists.{mem-of-remove, not-removed, mem-remove, once-rem
 use Rattle.buddy.specs.Runs.{cell, first}
 use Rattle.buddy.specs.Heap.{Kind, free, used, slab, file, Heap, SoundHeap}
 use Rattle.buddy.specs.Rules.{recount}
-use Rattle.buddy.specs.Request.{Request, on}
+use Rattle.buddy.specs.Request.{Request}
 use Rattle.buddy.specs.History.{Outcome, call, Event, took, gave, got, left, event, written, Moment, next, after, still_out, gets, puts, granted_as}
 use Rattle.buddy.specs.Demand.{Out}
 use Rattle.buddy.proofs.RunLaws.{cell-first, head-is, head-unique}

@@ -13,7 +13,7 @@ use words::word::{CompoundInfo, Decoded, FreeInfo, NO_PAGE, PageInfo, PageStorag
 // What the word of a page says.
 pub fn read_page_info(words: &[u64], pfn: usize) -> Decoded
     requires { pfn < length words.now }
-    ensures { result ≡ said words.entry.now pfn }
+    ensures { result ≡ said words.now pfn }
 {
     PageStorageType::decode(PageStorageType(words[pfn]))
 }
@@ -21,7 +21,7 @@ pub fn read_page_info(words: &[u64], pfn: usize) -> Decoded
 // Writes what a page is; `info` has a word.
 pub fn write_page_info(words: &mut [u64], pfn: usize, info: PageInfo)
     requires { pfn < length words.old }
-    ensures { words.exit.now ≡ set words.entry.now pfn (mem_of info) }
+    ensures { words.new ≡ set words.old pfn (mem_of info) }
 {
     let word = PageStorageType::to_mem(info);
     words[pfn] = word.0;
@@ -30,7 +30,7 @@ pub fn write_page_info(words: &mut [u64], pfn: usize, info: PageInfo)
 // The page after a free page on its list; NO_PAGE at the end, and for a page that is not free.
 pub fn next_free_pfn(words: &[u64], pfn: usize) -> usize
     requires { pfn < length words.now }
-    ensures { result ≡ next_in (said words.entry.now pfn) }
+    ensures { result ≡ next_in (said words.now pfn) }
 {
     let Decoded::Info(info) = read_page_info(words, pfn) else {
         return NO_PAGE;
@@ -74,9 +74,10 @@ pub fn fill_words(words: &mut [u64], from: usize, count: usize, info: PageInfo)
 }
 
 // Marks the pages of a block after its first as Compound.
+#[tactic(auto, unfolding(crate::specs::Fill::mark))]
 pub fn mark_compound_page(words: &mut [u64], pfn: usize, order: usize)
     requires { BlockIn pfn order words.old }
-    ensures { words.exit.now ≡ mark pfn order words.entry.now }
+    ensures { words.new ≡ mark pfn order words.old }
 {
     let rest = size(order) - 1;
     fill_words(
@@ -88,9 +89,10 @@ pub fn mark_compound_page(words: &mut [u64], pfn: usize, order: usize)
 }
 
 // Writes a free block: its head, and the rest as Compound.
+#[tactic(auto, unfolding(crate::specs::Fill::init))]
 pub fn init_compound_page(words: &mut [u64], pfn: usize, order: usize, next_pfn: usize)
     requires { BlockIn pfn order words.old }
-    ensures { words.exit.now ≡ init pfn order next_pfn words.entry.now }
+    ensures { words.new ≡ init pfn order next_pfn words.old }
 {
     write_page_info(
         words,

@@ -17,11 +17,11 @@ module _ (ws : List ℕ) (M : ℕ → Bool) (o : ℕ) where
 
   links-of : (head : ℕ) (l : List ℕ) → Linked ws M o head l → Links (λ p. next_in (said ws p)) l
   links-of head [] k = tt
-  links-of head (x ∷ l) k = (head_of _ l k.2, links-of _ l k.2)
+  links-of head (x ∷ l) k = (head_of _ l k.2, links-of (next_in (said ws x)) l k.2)
 
   free_of : (head : ℕ) (l : List ℕ) → Linked ws M o head l → (p : ℕ) → List-as-Memᴰ p l → FreeBlock ws M o p
   free_of head [] k p m = absurd (List·Memᴰ·not-nil m)
-  free_of head (x ∷ l) k p m = ⊎_elim (λ d. rw d k.1) (free_of _ l k.2 p) (List·Memᴰ·cases-cons m)
+  free_of head (x ∷ l) k p m = ⊎_elim (λ d. rw d k.1) (free_of (next_in (said ws x)) l k.2 p) (List·Memᴰ·cases-cons m)
 
   pub links-linked : (l : List ℕ) → Links (λ p. next_in (said ws p)) l → ((p : ℕ) → List-as-Memᴰ p l → FreeBlock ws M o p)
       → Linked ws M o (head_or l) l

@@ -4,7 +4,7 @@ use Rattle.words.specs.declared.word.PageInfo.{PageInfo}
 use Rattle.buddy.specs.Runs.{cell, first}
 use Rattle.buddy.specs.Heap.{Kind, free, used, Heap}
 use Rattle.buddy.specs.Steps.{take, label}
-use Rattle.buddy.specs.Rules.{refill, Grant, refused, granted, grant_head, allocate}
+use Rattle.buddy.specs.Rules.{Grant, refused, granted, grant_head, allocate}
 use Rattle.buddy.proofs.Refill.{Allocated, none, some, allocated, refill-down}
 use Rattle.buddy.proofs.Grant.{InHand, hand-out, Answers, allocate-answers}
 use Rattle.pages.specs.Info.{allocated_info}

@@ -106,7 +106,7 @@ down-image o zero f lent valid p ps is = record {
 }
 down-image {h = h} o (suc k) f lent valid p ps is =
     let e : h.list (suc (k + o)) ≡ p ∷ ps = rw (suc-add k o) at is in
-    down_turn f lent o k p ps (omega arith) e (down-image o k (turn-split f lent o k p ps (omega arith) e).fits lent (omega arith) _ _
+    down_turn f lent o k p ps (omega arith) e (down-image {h = turned h (k + o) p} o k (turn-split f lent o k p ps (omega arith) e).fits lent (omega arith) _ _
     (split-list (taken h (k + o) p) (k + o) (cell (suc (k + o)) p)))
 
 module _ {M : ℕ → Bool} {r : HeapMemoryRegion} {h : Heap} (f : Fits M r h) (lent : Lent r) (o : ℕ) (valid : o ≤ 5) where

@@ -7,7 +7,7 @@ use pages::{init_compound_page, mark_compound_page, size, write_page_info};
 use words::word::{AllocatedInfo, PageInfo};
 
 // The record, and the head of the merged block.
-#[derive(Drop)]
+#[derive(Clone, Copy)]
 pub struct Merged {
     pub region: HeapMemoryRegion,
     pub page: usize,
@@ -21,6 +21,7 @@ pub fn least(a: usize, b: usize) -> usize
 
 impl HeapMemoryRegion {
     // The record with another number of blocks of one order.
+    #[tactic(auto, unfolding(crate::specs::State::with_blocks))]
     pub fn with_blocks(self, order: usize, count: usize) -> HeapMemoryRegion
         requires { order < 6 }
         ensures { result ≡ with_blocks self order count }
@@ -31,9 +32,10 @@ impl HeapMemoryRegion {
     }
 
     // Splits a block that is out: its halves go ahead of the next lower list, the lower half first.
+    #[tactic(auto, unfolding(crate::specs::State::split))]
     pub fn split_page(self, words: &mut [u64], pfn: usize, order: usize) -> HeapMemoryRegion
         requires { SplitOk pfn order (st self words.old) }
-        ensures { st result words.exit.now ≡ split pfn (order - 1) (st self words.entry.now) }
+        ensures { st result words.new ≡ split pfn (order - 1) (st self words.old) }
     {
         let new_order = order - 1;
         let pfn2 = pfn + size(new_order);
@@ -49,6 +51,7 @@ impl HeapMemoryRegion {
     }
 
     // Makes one block of two buddies that are out, one order up; the lower page is its head.
+    #[tactic(auto, unfolding(crate::specs::State::merge))]
     pub fn merge_pages(self, words: &mut [u64], pfn1: usize, pfn2: usize, order: usize) -> Merged
         requires { MergeOk pfn1 pfn2 order (st self words.old) }
         ensures { Gives (lower pfn1 pfn2) (merge (lower pfn1 pfn2) order (st self words.old)) result.page (st result.region words.new) }

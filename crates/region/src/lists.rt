@@ -7,21 +7,21 @@ use pages::{next_free_pfn, write_page_info};
 use words::word::{AllocatedInfo, FreeInfo, NO_PAGE, PageInfo};
 
 // A page or an order that was looked for.
-#[derive(Drop)]
+#[derive(Clone, Copy)]
 pub enum Found {
     At(usize),
     Nothing,
 }
 
 // The record, and the page taken off a list.
-#[derive(Drop)]
+#[derive(Clone, Copy)]
 pub struct Taken {
     pub region: HeapMemoryRegion,
     pub head: Found,
 }
 
 // The record, and whether the block was on the list.
-#[derive(Drop)]
+#[derive(Clone, Copy)]
 pub struct Pulled {
     pub region: HeapMemoryRegion,
     pub found: bool,
@@ -30,7 +30,7 @@ pub struct Pulled {
 // The page before `pfn` on the list that goes on at `first`, looked for in at most `count` steps.
 pub fn page_before(words: &[u64], first: usize, pfn: usize, count: usize) -> Found
     requires { WalkOk count first pfn words.now }
-    ensures { result ≡ page_before count first pfn words.entry.now }
+    ensures { result ≡ page_before count first pfn words.now }
 {
     let mut old_pfn = first;
     let mut left = count;
@@ -50,6 +50,7 @@ pub fn page_before(words: &[u64], first: usize, pfn: usize, count: usize) -> Fou
 
 impl HeapMemoryRegion {
     // The record with another head and count of one list.
+    #[tactic(auto, unfolding(crate::specs::State::with_list))]
     pub fn with_list(self, order: usize, head: usize, free: usize) -> HeapMemoryRegion
         requires { order < 6 }
         ensures { result ≡ with_list self order head free }
@@ -61,6 +62,7 @@ impl HeapMemoryRegion {
     }
 
     // Takes the head of list `order`, and marks it Allocated.
+    #[tactic(auto, unfolding(crate::specs::State::take_head, crate::specs::State::head_taken))]
     pub fn get_next_page(self, words: &mut [u64], order: usize) -> Taken
         requires { TakeOk order (st self words.old) }
         ensures { Gives (head_taken order (st self words.old)) (take_head order (st self words.old)) result.head (st result.region words.new) }
@@ -82,9 +84,10 @@ impl HeapMemoryRegion {
     }
 
     // Puts a block at the head of list `order`.
+    #[tactic(auto, unfolding(crate::specs::State::put_head))]
     pub fn free_page_raw(self, words: &mut [u64], pfn: usize, order: usize) -> HeapMemoryRegion
         requires { PutOk pfn order (st self words.old) }
-        ensures { st result words.exit.now ≡ put_head pfn order (st self words.entry.now) }
+        ensures { st result words.new ≡ put_head pfn order (st self words.old) }
     {
         let next_page = self.next_page[order];
         write_page_info(words, pfn, PageInfo::Free(FreeInfo { next_page, order }));
@@ -93,6 +96,7 @@ impl HeapMemoryRegion {
     }
 
     // Takes `pfn`, which stands after `before` on list `order`, out of it.
+    #[tactic(auto, unfolding(crate::specs::State::cut))]
     pub fn cut_page(
         self,
         words: &mut [u64],
@@ -101,7 +105,7 @@ impl HeapMemoryRegion {
         order: usize,
     ) -> HeapMemoryRegion
         requires { CutOk before pfn order (st self words.old) }
-        ensures { st result words.exit.now ≡ cut before pfn order (st self words.entry.now) }
+        ensures { st result words.new ≡ cut before pfn order (st self words.old) }
     {
         let next_page = next_free_pfn(words, pfn);
         write_page_info(words, before, PageInfo::Free(FreeInfo { next_page, order }));
@@ -112,9 +116,10 @@ impl HeapMemoryRegion {
     }
 
     // Takes the block `pfn` out of list `order`; the others keep their order.
+    #[tactic(auto, unfolding(crate::specs::State::pull, crate::specs::State::pulls))]
     pub fn allocate_pfn(self, words: &mut [u64], pfn: usize, order: usize) -> Pulled
         requires { PullOk pfn order (st self words.old) }
-        ensures { Gives (pulls pfn order (st self words.entry.now)) (pull pfn order (st self words.entry.now)) result.found (st result.region words.exit.now) }
+        ensures { Gives (pulls pfn order (st self words.old)) (pull pfn order (st self words.old)) result.found (st result.region words.new) }
     {
         let first_pfn = self.next_page[order];
         if first_pfn == NO_PAGE {

@@ -47,7 +47,7 @@ pub fn try_to_merge_page(
     order: usize,
 ) -> Tried
     requires { TryOk pfn order (st region words.old) }
-    ensures { Gives (try_page pfn order (st region words.entry.now)) (try_join pfn order (st region words.entry.now)) result.page (st result.region words.exit.now) }
+    ensures { Gives (try_page pfn order (st region words.old)) (try_join pfn order (st region words.old)) result.page (st result.region words.new) }
 {
     let kept = Tried {
         region: region,
@@ -82,7 +82,7 @@ pub fn free_page_order(
     order: usize,
 ) -> HeapMemoryRegion
     requires { FreeOk (5 - order) pfn order (st region words.old) }
-    ensures { st result words.exit.now ≡ free_from (5 - order) pfn order (st region words.entry.now) }
+    ensures { st result words.new ≡ free_from (5 - order) pfn order (st region words.old) }
 {
     let tried = try_to_merge_page(region, words, pfn, order);
     let page = tried.page;

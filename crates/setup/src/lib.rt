@@ -24,7 +24,7 @@ pub fn grow_block(
     order: usize,
 ) -> HeapMemoryRegion
     requires { GrowOk order pfn (st region words.old) }
-    ensures { st result words.exit.now ≡ grow_block order pfn (st region words.entry.now) }
+    ensures { st result words.new ≡ grow_block order pfn (st region words.old) }
 {
     write_page_info(words, pfn, PageInfo::Allocated(AllocatedInfo { order }));
     mark_compound_page(words, pfn, order);

@@ -14,7 +14,7 @@ pub mod grants;
 pub mod lookup;
 
 // Why a call is refused, with what each carries (R1 to R12).
-#[derive(Drop)]
+#[derive(Clone, Copy)]
 pub enum AllocError {
     BadCount,
     BadStart,
@@ -31,60 +31,60 @@ pub enum AllocError {
 }
 
 // The answer of a call that has nothing to say but that it succeeded.
-#[derive(Drop)]
+#[derive(Clone, Copy)]
 pub enum Done {
     Ok,
     Refused(AllocError),
 }
 
 // The address granted.
-#[derive(Drop)]
+#[derive(Clone, Copy)]
 pub enum Grant {
     At(VirtAddr),
     Refused(AllocError),
 }
 
 // The count of a file page after a get or a put.
-#[derive(Drop)]
+#[derive(Clone, Copy)]
 pub enum Count {
     Is(u64),
     Refused(AllocError),
 }
 
-#[derive(Drop)]
+#[derive(Clone, Copy)]
 pub struct SizeAlign {
     pub size: u64,
     pub align: u64,
 }
 
 // The layout of a granted block.
-#[derive(Drop)]
+#[derive(Clone, Copy)]
 pub enum Layout {
     Is(SizeAlign),
     Refused(AllocError),
 }
 
 // Answers with the record beside them.
-#[derive(Drop)]
+#[derive(Clone, Copy)]
 pub struct Finished {
     pub region: HeapMemoryRegion,
     pub answer: Done,
 }
 
-#[derive(Drop)]
+#[derive(Clone, Copy)]
 pub struct Granted {
     pub region: HeapMemoryRegion,
     pub answer: Grant,
 }
 
-#[derive(Drop)]
+#[derive(Clone, Copy)]
 pub struct Counted {
     pub region: HeapMemoryRegion,
     pub answer: Count,
 }
 
 // An answer as numbers: 0 or the number of its refusal, how many values it carries, and these; 0 where it carries less.
-#[derive(Drop)]
+#[derive(Clone, Copy)]
 pub struct Answer {
     pub number: u64,
     pub carries: u64,
