@@ -12,7 +12,7 @@ use region::lists::Found;
 use words::word::{MAX_ORDER, NO_PAGE, PageInfo};
 
 // The record, and the page granted.
-#[derive(Drop)]
+#[derive(Clone, Copy)]
 pub struct Granted {
     pub region: HeapMemoryRegion,
     pub page: Found,
@@ -82,6 +82,7 @@ pub fn refill_page_list(
 }
 
 // Grants a block of `order`, and writes what it is to its first page.
+#[tactic(auto, unfolding(region::specs::Steps::grant_page, region::specs::Steps::grant))]
 pub fn allocate_pages_info(
     region: HeapMemoryRegion,
     words: &mut [u64],

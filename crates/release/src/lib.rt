@@ -12,7 +12,7 @@ use region::lists::Found;
 use words::word::{Decoded, MAX_ORDER, PageInfo};
 
 // The record, and the head of the merged block if there was a merge.
-#[derive(Drop)]
+#[derive(Clone, Copy)]
 pub struct Tried {
     pub region: HeapMemoryRegion,
     pub page: Found,
