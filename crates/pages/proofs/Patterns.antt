@@ -1,13 +1,12 @@
 -- Two patterns on a word, `Decoded` and then `PageInfo`: what the second binds, and what its `else` knows, as facts on what the word says.
-use Rattle.common.specs.Kit.{ℕ, ◌≡◌, refl, sym, ap, ◌∙◌, [], ◌∷◌}
-use types.Run.{OneOf, miss}
-use denote.Enum.Declared.{tag_of}
+use Rattle.common.specs.Kit.{ℕ, ◌≡◌, refl, sym, ap, ◌∙◌}
 use Rattle.words.specs.Word.{no_page}
+use Rattle.words.specs.declared.word.FreeInfo.{FreeInfo}
+use Rattle.words.specs.declared.word.FileInfo.{FileInfo}
 use Rattle.words.specs.declared.word.PageInfo.{PageInfo}
 use Rattle.words.specs.declared.word.PageInfo.TheVariants.{Free, Allocated, Slab, Compound, File, Reserved}
 use Rattle.words.specs.declared.word.Decoded.{Decoded}
 use Rattle.words.specs.declared.word.Decoded.TheVariants.{Info}
-use Rattle.words.specs.contracts.word.PageInfo.{the_type}
 use Rattle.pages.specs.Info.{file_info}
 use Rattle.pages.specs.Said.{next_of}
 use Rattle.pages.specs.Meaning.{no_order, free_order, if_file}
@@ -21,8 +20,8 @@ pub record NotFree (i : PageInfo) : Type 0 where
   pub next : next_of i ≡ no_page
   pub order : free_order (Info i) ≡ no_order
 
-pub not_free : (i : PageInfo) → OneOf (1 ∷ 2 ∷ 3 ∷ 4 ∷ 5 ∷ []) (tag_of the_type i) → NotFree i
-not_free (Free fi) h = absurd (miss (1 ∷ 2 ∷ 3 ∷ 4 ∷ 5 ∷ []) 0 tt h)
+pub not_free : (i : PageInfo) → ((fi : FreeInfo) → i ≡ Free fi → ⊥) → NotFree i
+not_free (Free fi) h = absurd (h fi refl)
 not_free (Allocated ai) h = record { next = refl; order = refl }
 not_free (Slab si) h = record { next = refl; order = refl }
 not_free (Compound ci) h = record { next = refl; order = refl }
@@ -30,12 +29,12 @@ not_free (File fi) h = record { next = refl; order = refl }
 not_free (Reserved ri) h = record { next = refl; order = refl }
 
 -- the `else` of a pattern on File
-pub not-file : {A : Type 0} (i : PageInfo) (f : ℕ → A) (d : A) → OneOf (0 ∷ 1 ∷ 2 ∷ 3 ∷ 5 ∷ []) (tag_of the_type i) → if_file (Info i) f d ≡ d
+pub not-file : {A : Type 0} (i : PageInfo) (f : ℕ → A) (d : A) → ((fi : FileInfo) → i ≡ File fi → ⊥) → if_file (Info i) f d ≡ d
 not-file (Free fi) f d h = refl
 not-file (Allocated ai) f d h = refl
 not-file (Slab si) f d h = refl
 not-file (Compound ci) f d h = refl
-not-file (File fi) f d h = absurd (miss (0 ∷ 1 ∷ 2 ∷ 3 ∷ 5 ∷ []) 4 tt h)
+not-file (File fi) f d h = absurd (h fi refl)
 not-file (Reserved ri) f d h = refl
 
 -- a word says File, or it does not, and then the default is taken
