@@ -17,6 +17,7 @@ use words::word::{AllocatedInfo, MAX_ORDER, PageInfo, ReservedInfo};
 const RUN: usize = 32;
 
 // Makes one more block of pages that were not managed: it is marked and counted as out, then freed.
+#[tactic(auto, unfolding(crate::specs::Steps::grow_block, crate::specs::Steps::add_block))]
 pub fn grow_block(
     region: HeapMemoryRegion,
     words: &mut [u64],
@@ -54,6 +55,7 @@ pub fn grow_blocks(
 }
 
 // Makes blocks of the pages from `from` up to `to`: whole runs of 32 pages first, then the pages below them, then those above.
+#[tactic(auto, unfolding(crate::specs::Steps::grow_span, crate::specs::Steps::grow_from))]
 pub fn grow_span(
     region: HeapMemoryRegion,
     words: &mut [u64],
@@ -75,6 +77,7 @@ pub fn grow_span(
 }
 
 // Sets a region up: all words written, and the managed pages made blocks and freed.
+#[tactic(auto, unfolding(crate::specs::Steps::init_memory, crate::specs::Steps::blank))]
 pub fn init_memory(
     words: &mut [u64],
     start_virt: VirtAddr,
