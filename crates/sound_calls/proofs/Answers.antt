@@ -7,13 +7,9 @@ use Rattle.sound_calls.specs.declared.Answer.{Answer}
 use Rattle.sound_calls.specs.declared.AllocError.{AllocError}
 use Rattle.sound_calls.specs.declared.AllocError.TheVariants.{BadCount, BadStart, TooManyBoot, Damaged, InvalidPageOrder, OutOfMemory, InvalidHeapAddress, BootPage, InvalidPageType, InvalidFilePage, RefFull, InvalidItem}
 use Rattle.sound_calls.specs.declared.Done.{Done}
-use Rattle.sound_calls.specs.declared.Done.TheVariants as Done
 use Rattle.sound_calls.specs.declared.Grant.{Grant}
-use Rattle.sound_calls.specs.declared.Grant.TheVariants as Grant
 use Rattle.sound_calls.specs.declared.Count.{Count}
-use Rattle.sound_calls.specs.declared.Count.TheVariants as Count
 use Rattle.sound_calls.specs.declared.Layout.{Layout}
-use Rattle.sound_calls.specs.declared.Layout.TheVariants as Layout
 
 -- the sorts of answer, and what each tells
 pub data Sort : Type 0 where

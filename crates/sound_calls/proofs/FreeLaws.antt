@@ -21,7 +21,7 @@ use Rattle.sound_calls.specs.Promise.{kept, became, on_page, does_at, does}
 use Rattle.sound_calls.specs.Code.{freeable, leaves}
 use Rattle.sound_calls.proofs.SoundInput.{SoundInput, lent, fit, is-image}
 use Rattle.sound_calls.proofs.Places.{on_same}
-use Rattle.sound_calls.proofs.Heads.{may_free, freeable-out}
+use Rattle.sound_calls.proofs.Heads.{may_free_lem, freeable-out}
 
 module _ {r : HeapMemoryRegion} {ws : List ℕ} (good : SoundInput r ws) where
   abbrev h : Heap
@@ -45,7 +45,7 @@ module _ {r : HeapMemoryRegion} {ws : List ℕ} (good : SoundInput r ws) where
   unfolding does does_at
   free-code a = on_same r ws a _ _ (λ p l. by-test (ltb p r.allocated)
       (λ t. rw t)
-      (λ t. rw (t, may_free (said ws p)) (go p l (ltb-false p r.allocated t) (freeable (said ws p)) refl)))
+      (λ t. rw (t, may_free_lem (said ws p)) (go p l (ltb-false p r.allocated t) (freeable (said ws p)) refl)))
     where
       go : (p : ℕ) → p < r.page_count → r.allocated ≤ p → (f : Found) → freeable (said ws p) ≡ f
           → if_at f (λ o. leaves (ok []) (free_from (5 - o) p o (st r ws))) (kept r ws (no 9 (a ∷ [])))

@@ -11,7 +11,6 @@ use Rattle.buddy.proofs.Refill.{never}
 use Rattle.buddy.proofs.Pages.{slab≢free, file≢free, OutHead, FilePage, file-page}
 use Rattle.pages.specs.Info.{allocated_info, compound_info, file_info, reserved_info}
 use Rattle.pages.specs.Said.{said}
-use Rattle.pages.specs.Meaning as Meaning
 use Rattle.pages.specs.Meaning.{Meaning, means, if_head, kind_said}
 use Rattle.region.specs.Layout.{end_of, managed}
 use Rattle.region.specs.Sound.{Sound}

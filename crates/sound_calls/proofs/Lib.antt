@@ -1,7 +1,6 @@
 pub mod Answers
 pub mod SoundInput
 pub mod Typing
-pub mod Patterns
 pub mod Places
 pub mod Heads
 pub mod GrantLaws

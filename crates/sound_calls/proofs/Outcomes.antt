@@ -30,9 +30,9 @@ use Rattle.refine.proofs.Grant.{Granted, Grants}
 use Rattle.sound_calls.specs.Answer.{ok, no}
 use Rattle.sound_calls.specs.Promise.{kept, became, max_count, grants, slab_grants, does_at, does}
 use Rattle.sound_calls.specs.Code.{freeable}
-use Rattle.sound_calls.proofs.SoundInput.{SoundInput, fit}
+use Rattle.sound_calls.proofs.SoundInput.{SoundInput}
 use Rattle.sound_calls.proofs.Places.{place, start-in, by_place}
-use Rattle.sound_calls.proofs.Heads.{may_free, freeable-out, out-freeable, said-file, file-said}
+use Rattle.sound_calls.proofs.Heads.{may_free_lem, freeable-out, out-freeable, said-file, file-said}
 use Rattle.sound_calls.proofs.GrantLaws.{grants-image}
 use Rattle.sound_calls.proofs.FreeLaws.{out-frees}
 use Rattle.sound_calls.proofs.FileLaws.{count_fits, recounts, file-puts}
@@ -117,7 +117,7 @@ module _ {r : HeapMemoryRegion} {ws : List ℕ} (good : SoundInput r ws) where
   outcomes (on to_free a) = by_place r ws a _ (Way r ws (on to_free a))
       (λ p is. by-test (ltb p.0 r.allocated)
       (λ t. rw t (refuse (boot p.0 is (ltb-true p.0 r.allocated t))))
-      (λ t. rw (t, may_free (said ws p.0)) (free-way a p.0 is (freeable (said ws p.0)) refl (ltb-false p.0 r.allocated t))))
+      (λ t. rw (t, may_free_lem (said ws p.0)) (free-way a p.0 is (freeable (said ws p.0)) refl (ltb-false p.0 r.allocated t))))
       (λ off. refuse (address off))
   outcomes (on to_get a) = by_place r ws a _ (Way r ws (on to_get a))
       (λ p is. by-file (said ws p.0) (λ n e. rw e (get-way a p.0 is n e)) (λ other. simp other (other_way a p.0 is to_get (λ x. never (cc)) other)))

@@ -17,7 +17,6 @@ use Rattle.sound_calls.specs.Answer.{no, grant, Result, result_of}
 use Rattle.sound_calls.specs.declared.Answer.{Answer}
 use Rattle.sound_calls.specs.declared.AllocError.TheVariants.{OutOfMemory}
 use Rattle.sound_calls.specs.declared.Grant.{Grant}
-use Rattle.sound_calls.specs.declared.Grant.TheVariants as Grant
 
 -- a page's address as an answer
 abbrev pub address_grant : AddressAt → Grant

@@ -15,6 +15,7 @@ use words::place::{PageAt, VirtAddr};
 use words::word::{Decoded, FileInfo, PageInfo};
 
 // One more reference to a file page, by its number.
+#[tactic(auto, unfolding(crate::specs::Files::got_count, crate::specs::Files::got_words))]
 fn get_at(words: &mut [u64], pfn: usize, vaddr: VirtAddr) -> Count
     requires { pfn < length words.old }
     ensures answer { count result ≡ got_count vaddr.0 pfn words.old }
@@ -41,6 +42,7 @@ fn get_at(words: &mut [u64], pfn: usize, vaddr: VirtAddr) -> Count
 }
 
 // One reference less to a file page, by its number; at 0 the page is freed.
+#[tactic(auto, unfolding(crate::specs::Files::put_count, crate::specs::Files::put_state))]
 fn put_at(region: HeapMemoryRegion, words: &mut [u64], pfn: usize, vaddr: VirtAddr) -> Counted
     requires { PutFileOk pfn (st region words.old) }
     ensures { Gives (put_count vaddr.0 pfn words.old) (put_state pfn (st region words.old)) (count result.answer) (st result.region words.new) }
@@ -78,6 +80,7 @@ fn put_at(region: HeapMemoryRegion, words: &mut [u64], pfn: usize, vaddr: VirtAd
     }
 }
 
+#[tactic(auto, unfolding(crate::specs::Promise::does, crate::specs::Promise::at_page))]
 pub fn get_file_page(region: HeapMemoryRegion, words: &mut [u64], vaddr: VirtAddr) -> Count
     requires { Sound region words.old }
     ensures { result_of (count result) region words.new ≡ does region words.old (on to_get vaddr.0) }
@@ -90,6 +93,7 @@ pub fn get_file_page(region: HeapMemoryRegion, words: &mut [u64], vaddr: VirtAdd
     get_at(words, page.0 as usize, vaddr)
 }
 
+#[tactic(auto, unfolding(crate::specs::Promise::does, crate::specs::Promise::at_page))]
 pub fn put_file_page(region: HeapMemoryRegion, words: &mut [u64], vaddr: VirtAddr) -> Counted
     requires { Sound region words.old }
     ensures { result_of (count result.answer) result.region words.new ≡ does region words.old (on to_put vaddr.0) }

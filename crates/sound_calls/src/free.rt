@@ -39,6 +39,7 @@ fn refused(region: HeapMemoryRegion, why: AllocError) -> Finished
     }
 }
 
+#[tactic(auto, unfolding(crate::specs::Promise::does, crate::specs::Promise::at_page))]
 pub fn free_page(region: HeapMemoryRegion, words: &mut [u64], vaddr: VirtAddr) -> Finished
     requires { Sound region words.old }
     ensures { result_of (done result.answer) result.region words.new ≡ does region words.old (on to_free vaddr.0) }

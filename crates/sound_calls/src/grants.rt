@@ -29,6 +29,7 @@ fn granted_at(start_virt: VirtAddr, page_count: usize, pfn: usize) -> Grant
 }
 
 // Grants a block that is what `info` says, or refuses for want of memory.
+#[tactic(auto, unfolding(crate::specs::Code::code_grants))]
 fn allocate_info(
     region: HeapMemoryRegion,
     words: &mut [u64],
@@ -56,6 +57,7 @@ fn allocate_info(
     }
 }
 
+#[tactic(auto, unfolding(crate::specs::Promise::does))]
 pub fn allocate_pages(region: HeapMemoryRegion, words: &mut [u64], order: usize) -> Granted
     requires { Sound region words.old }
     ensures { result_of (grant result.answer) result.region words.new ≡ does region words.old (for_block order) }

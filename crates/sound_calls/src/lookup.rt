@@ -32,6 +32,7 @@ fn layout_of(said: Decoded, vaddr: VirtAddr) -> Layout
     }
 }
 
+#[tactic(auto, unfolding(crate::specs::Promise::looks_up, crate::specs::Promise::looked_up))]
 pub fn layout_from_ptr(region: HeapMemoryRegion, words: &[u64], vaddr: VirtAddr) -> Layout
     requires { Sound region words.now }
     ensures { layout result ≡ looks_up region words.now vaddr.0 }
