@@ -4,6 +4,7 @@ use Rattle.common.specs.Kit.{ℕ, zero, suc, ◌+◌, ◌-◌, ◌*◌, ◌/◌,
 use native.Mathlib.Nat.{mul-mod_left, mul-div_cancel}
 use mathlib.Core.Bool.{and_comm}
 use lib.Pow.{split, mod-pow-add}
+use lib.Seq.{set_out}
 use Rattle.pages.specs.Said.{said}
 use Rattle.pages.specs.Meaning.{free_order}
 use Rattle.region.specs.Pages.{Tiled, FreeBlock, buddy_of, NoBuddies}
@@ -59,6 +60,9 @@ pub used-half : (b o p : ℕ) → 6 ≤ o → upper_half b o p ≡ false
 unfolding upper_half
 used-half b o p h =
     elim (ℕ_discrete o b) [ yes e ↦ simp (le-ltb b 5 (omega arith)) | no n ↦ simp (ne_eqb o b n, and-false) ]
+
+-- and a note of it changes nothing: no list of six has such a place
+pub ruleset unnoted = (used-half, set_out)
 
 module _ (ws : List ℕ) (M : ℕ → Bool) where
   pub high_half : (o p : ℕ) → 5 ≤ o → lower_half ws M o p ≡ false

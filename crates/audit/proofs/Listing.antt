@@ -56,7 +56,7 @@ module _ (ws : List ℕ) {M : ℕ → Bool} {e : ℕ} (bound : Bounded M e) (o :
   linked-once h [] k p = omega arith
   linked-once h (x ∷ l) k p =
       elim (ℕ_discrete x p) [
-        | yes q ↦ rw (← q, eq-eqb x x refl, head-once h x l k) (omega arith)
+        | yes q ↦ let none : occurs p l ≡ 0 = subst (λ n. occurs n l ≡ 0) q (head-once h x l k) in rw (eq-eqb x p q, none) (omega arith)
         | no n ↦ rw (ne_eqb x p n, zero-add) (linked-once (next_in (said ws x)) l k.2 p)
       ]
 

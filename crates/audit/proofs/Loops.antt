@@ -1,14 +1,7 @@
 -- The tests of `Check` as loops go through them: b is the answer, and what is left has it too, until a test fails or nothing is left.
-use Rattle.common.specs.Kit.{ℕ, zero, suc, ◌+◌, ◌-◌, ◌≤◌, ◌<◌, ◌≡◌, refl, sym, ap, ◌∙◌, Bool, true, false, not, ◌&&◌, and-true, and_assoc, eqb, ℕ_discrete, arith, eq-eqb, ne_eqb, not-true, not-false}
+use Rattle.common.specs.Kit.{ℕ, zero, suc, ◌+◌, ◌-◌, ◌≤◌, ◌<◌, ◌≡◌, refl, sym, ap, ◌∙◌, Bool, true, false, ◌&&◌, and-true, and_assoc, eqb, ℕ_discrete, arith, eq-eqb, ne_eqb}
 use lib.Bits.{bit_or, bit_xor, xor_self, or_add_and, xor_add_and, and_le_l, and_le_r}
 use Rattle.audit.specs.Check.{all}
-
--- what `if !f(..)` says of the test that f answers
-pub failed : {b t : Bool} → b ≡ t → not b ≡ true → t ≡ false
-failed {b} e n = sym e ∙ not-true b n
-
-pub passed : {b t : Bool} → b ≡ t → not b ≡ false → t ≡ true
-passed {b} e n = sym e ∙ not-false b n
 
 -- a test at the numbers from p up to e
 module _ {b : Bool} (f : ℕ → Bool) (p e : ℕ) (left : b ≡ all f p (e - p)) where

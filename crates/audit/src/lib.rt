@@ -21,6 +21,7 @@ pub mod survey;
 pub mod tiles;
 
 // Whether the numbers of the record are those of a region with these words.
+#[tactic(auto, unfolding(crate::specs::Check::keeps))]
 fn numbers_good(region: HeapMemoryRegion, words: &[u64]) -> bool
     ensures { result ≡ every (keeps region words.now) numbers }
 {

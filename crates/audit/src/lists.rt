@@ -8,6 +8,7 @@ use crate::heads::free_order;
 use pages::{next_free_pfn, read_page_info};
 
 // Whether `pfn` lies from `from` up to `end` and heads a free block of `order`.
+#[tactic(auto, unfolding(crate::specs::Check::is_free, buddy::specs::Rules::span))]
 fn is_free(words: &[u64], from: usize, end: usize, order: usize, pfn: usize) -> bool
     requires { end ≤ length words.now }
     ensures { result ≡ is_free words.now (span from end) order pfn }
@@ -22,6 +23,7 @@ fn is_free(words: &[u64], from: usize, end: usize, order: usize, pfn: usize) -> 
 }
 
 // The page after `pfn` on a list of free blocks of `order`; `end`, which is on no list, if `pfn` is no such block.
+#[tactic(auto, unfolding(crate::specs::Survey::page_after))]
 fn page_after(words: &[u64], from: usize, end: usize, order: usize, pfn: usize) -> usize
     requires { end ≤ length words.now }
     ensures { result ≡ page_after words.now (span from end) end order pfn }

@@ -23,6 +23,7 @@ pub struct Findings {
 
 // Whether a block at `pfn`, free of `order`, and the one that ends there, free of order `before`, are buddies. Here and below the order of a
 // block that is not free is MAX_ORDER.
+#[tactic(auto, unfolding(crate::specs::Survey::upper_half))]
 fn is_upper_half(before: usize, order: usize, pfn: usize) -> bool
     ensures { result ≡ upper_half before order pfn }
 {
@@ -36,6 +37,7 @@ fn is_upper_half(before: usize, order: usize, pfn: usize) -> bool
 }
 
 // Takes note of a block at `pfn`: one that is free of `order` is counted and its list goes a page on. Whether it is no upper half.
+#[tactic(auto, using(crate::proofs::Buddies::unnoted))]
 fn note_free(
     words: &[u64],
     from: usize,

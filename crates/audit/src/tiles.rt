@@ -24,6 +24,7 @@ pub fn all_say(words: &[u64], from: usize, end: usize, info: PageInfo) -> bool
 }
 
 // Whether `pfn` starts a block of `order` that ends at `end` or before.
+#[tactic(auto, unfolding(crate::specs::Check::block_at))]
 pub fn block_at(words: &[u64], end: usize, pfn: usize, order: usize) -> bool
     requires { Within words.now pfn end }
     ensures { result ≡ block_at words.now (span pfn end) pfn order }
