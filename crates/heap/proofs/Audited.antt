@@ -11,7 +11,6 @@ use Rattle.sound_calls.specs.Answer.{done, refusal}
 use Rattle.sound_calls.specs.declared.Answer.{Answer}
 use Rattle.sound_calls.specs.declared.AllocError.{AllocError}
 use Rattle.sound_calls.specs.declared.Done.{Done}
-use Rattle.sound_calls.specs.declared.Done.TheVariants as Done
 use Rattle.sound_calls.proofs.Answers.{dones, told-one}
 use Rattle.heap.specs.Promise.{damaged, audit_promise}
 

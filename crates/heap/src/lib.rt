@@ -10,7 +10,7 @@ pub mod start;
 pub mod word;
 
 // Both count arrays of a sound region; zeros beside a refusal.
-#[derive(Drop)]
+#[derive(Clone, Copy)]
 pub struct Report {
     pub answer: Done,
     pub total_pages: [usize; 6],

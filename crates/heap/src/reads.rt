@@ -9,6 +9,7 @@ use sound_calls::{AllocError, Done, Layout};
 use words::place::VirtAddr;
 
 // Whether record and words are sound. Every other call that wants them so asks this one, and hands on what it refuses.
+#[tactic(auto, unfolding(crate::specs::Promise::audit_promise))]
 pub fn audit(region: HeapMemoryRegion, words: &[u64]) -> Done
     ensures { done result ≡ audit_promise region words.now }
 {
@@ -20,6 +21,7 @@ pub fn audit(region: HeapMemoryRegion, words: &[u64]) -> Done
 }
 
 // Size and alignment of what the page of an address was granted as.
+#[tactic(auto, unfolding(crate::specs::Promise::lookup_promise))]
 pub fn layout_from_ptr(region: HeapMemoryRegion, words: &[u64], vaddr: VirtAddr) -> Layout
     ensures { layout result ≡ lookup_promise region words.now vaddr.0 }
 {
@@ -30,6 +32,7 @@ pub fn layout_from_ptr(region: HeapMemoryRegion, words: &[u64], vaddr: VirtAddr)
 }
 
 // Blocks and free blocks of each order.
+#[tactic(auto, unfolding(crate::specs::Promise::report_promise))]
 pub fn memory_info(region: HeapMemoryRegion, words: &[u64]) -> Report
     ensures { reported result ≡ report_promise region words.now }
 {

@@ -10,6 +10,7 @@ use sound_calls::{Count, Counted, Done, Finished, Grant, Granted};
 use words::place::VirtAddr;
 
 // Grants a block of 2^order pages.
+#[tactic(auto, unfolding(crate::specs::Promise::promise))]
 pub fn allocate_pages(region: HeapMemoryRegion, words: &mut [u64], order: usize) -> Granted
     ensures { result_of (grant result.answer) result.region words.new ≡ promise region words.old (for_block order) }
 {
@@ -23,6 +24,7 @@ pub fn allocate_pages(region: HeapMemoryRegion, words: &mut [u64], order: usize)
 }
 
 // Grants a file page, with count 1.
+#[tactic(auto, unfolding(crate::specs::Promise::promise))]
 pub fn allocate_file_page(region: HeapMemoryRegion, words: &mut [u64]) -> Granted
     ensures { result_of (grant result.answer) result.region words.new ≡ promise region words.old for_file }
 {
@@ -36,6 +38,7 @@ pub fn allocate_file_page(region: HeapMemoryRegion, words: &mut [u64]) -> Grante
 }
 
 // Grants a slab page for items of a size.
+#[tactic(auto, unfolding(crate::specs::Promise::promise))]
 pub fn allocate_slab_page(region: HeapMemoryRegion, words: &mut [u64], item_size: u64) -> Granted
     ensures { result_of (grant result.answer) result.region words.new ≡ promise region words.old (for_slab item_size) }
 {
@@ -49,6 +52,7 @@ pub fn allocate_slab_page(region: HeapMemoryRegion, words: &mut [u64], item_size
 }
 
 // Frees the block at an address.
+#[tactic(auto, unfolding(crate::specs::Promise::promise))]
 pub fn free_page(region: HeapMemoryRegion, words: &mut [u64], vaddr: VirtAddr) -> Finished
     ensures { result_of (done result.answer) result.region words.new ≡ promise region words.old (on to_free vaddr.0) }
 {
@@ -62,6 +66,7 @@ pub fn free_page(region: HeapMemoryRegion, words: &mut [u64], vaddr: VirtAddr) -
 }
 
 // One more reference to a file page; the record stays as it is.
+#[tactic(auto, unfolding(crate::specs::Promise::promise))]
 pub fn get_file_page(region: HeapMemoryRegion, words: &mut [u64], vaddr: VirtAddr) -> Count
     ensures { result_of (count result) region words.new ≡ promise region words.old (on to_get vaddr.0) }
 {
@@ -72,6 +77,7 @@ pub fn get_file_page(region: HeapMemoryRegion, words: &mut [u64], vaddr: VirtAdd
 }
 
 // One reference less to a file page; at 0 the page is free.
+#[tactic(auto, unfolding(crate::specs::Promise::promise))]
 pub fn put_file_page(region: HeapMemoryRegion, words: &mut [u64], vaddr: VirtAddr) -> Counted
     ensures { result_of (count result.answer) result.region words.new ≡ promise region words.old (on to_put vaddr.0) }
 {

@@ -16,6 +16,7 @@ pub fn empty_region() -> HeapMemoryRegion
 }
 
 // Whether a region can be set up with these numbers, and if not, the first refusal.
+#[tactic(auto, unfolding(crate::specs::Promise::set_up_answer))]
 fn set_up_answer(start_virt: VirtAddr, page_count: usize, allocated: usize, words: usize) -> Done
     ensures { done result ≡ set_up_answer start_virt.0 page_count allocated words }
 {

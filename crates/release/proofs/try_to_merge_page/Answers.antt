@@ -25,7 +25,7 @@ pub returns-in_default-info : goal.returns-in_default-info
 returns-in_default-info c =
     let found = sym c.compound_neighbor.ensures ∙ c.in-At.is in
     let told = sym c.read_page_info.ensures ∙ c.in-Info.is in
-    kept _ _ _ (joins-other _ _ _ _ found (ap free_order told ∙ (not_free c.in-Info.info c.in_default-info.not-Free).order))
+    kept _ _ _ (joins-other _ _ _ _ found (ap free_order told ∙ not_free c.in-Info.info c.in_default-info.not-Free))
 
 pub returns-then-fi-order : goal.returns-then-fi-order
 returns-then-fi-order c =
