@@ -1,6 +1,5 @@
 -- DEMAND 3 of the public calls: it holds of the model at every moment, and every moment is mirrored by one of the model's.
 use Rattle.common.specs.Kit.{[], ℕ, ◌≤◌, ◌≡◌, refl, sym, ◌∙◌, subst, ◌↔◌, inr, List, arith}
-use Rattle.common.specs.Numbers.{count}
 use Rattle.words.specs.declared.place.VirtAddr.{VirtAddr}
 use Rattle.buddy.specs.Heap.{file}
 use Rattle.buddy.specs.Request.{Request, Asks}

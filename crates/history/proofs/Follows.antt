@@ -74,8 +74,11 @@ module _ {r : HeapMemoryRegion} {ws : List ℕ} where
   written-told (for_block o) p s (answers-page (plain _)) tells-page = refl
   written-told for_file p s (answers-page filed) tells-page = refl
   written-told (for_slab i) p s (answers-page (slabbed _)) tells-page = refl
+  written-told (on to_free a) p s (answers-page asks) _ = elim asks [ ]
   written-told (on to_free a) p s answers-done tells-done = rw (start-address r a p s)
+  written-told (on to_get a) p s (answers-page asks) _ = elim asks [ ]
   written-told (on to_get a) p s answers-get tells-count = rw (start-address r a p s)
+  written-told (on to_put a) p s (answers-page asks) _ = elim asks [ ]
   written-told (on to_put a) p s answers-put (tells-count {n}) = rw (start-address r a p s) (by-test (eqb n 0) (λ e. rw e) (λ e. rw e))
 
 -- a refusal has a number, and nothing is written down of it

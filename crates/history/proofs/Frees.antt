@@ -91,7 +91,7 @@ module _ {M : ℕ → Bool} {n : ℕ} {m : Moment} (bound : (p : ℕ) → T (M p
       kept.full o p (record { managed = a.0; order = f.1; busy = λ e. rw e at a.1; head = f.2 }))
     where
       busy-T : (k : Kind) → k ≢ free → T (not (is_free k))
-      busy-T k b = by-test (is_free k) (λ e. absurd (b (is_free k (rw e tt)))) (λ e. rw e tt)
+      busy-T k b = by-test (is_free k) (λ e. absurd (b (is_free_lem k (rw e tt)))) (λ e. rw e tt)
 
   -- every block is free or out
   pub blocks-are : (o : ℕ) → o ≤ 5 → m.heap.blocks o ≡ length (m.heap.list o) + length (still_out m.log o)

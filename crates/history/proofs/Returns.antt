@@ -14,17 +14,19 @@ use Rattle.sound_calls.specs.declared.Answer.{Answer}
 use Rattle.sound_calls.proofs.Requests.{Tells, tells-count}
 use Rattle.history.specs.Calls.{Call, Moment, after, Succeeded}
 use Rattle.history.specs.Demand.{answered, Demand3, OutAt, LastAt, Returns}
-use Rattle.history.proofs.Follows.{Answers, answers-done, answers-put, start-address, by-success}
+use Rattle.history.proofs.Follows.{Answers, answers-page, answers-done, answers-put, start-address, by-success}
 use Rattle.history.proofs.Mirror.{Mirror, mirror}
 use Rattle.history.proofs.Mirrored.{mirrored, is-mirrored, kept-mirrored, gets-mirrored, puts-mirrored, as-mirrored, out-page, out-from}
 use Rattle.history.proofs.Answers.{free-told}
 use Rattle.history.proofs.Demand3.{demand3}
 
 give-done : {p : ℕ} {b : Model.ModelAnswer} → Answers (on to_free p) b → b ≡ done
+give-done (answers-page asks) = elim asks [ ]
 give-done answers-done = refl
 
 put_last : {r : HeapMemoryRegion} {ws : List ℕ} {p : ℕ} {b : Model.ModelAnswer} {t : Answer} → Answers (on to_put p) b → Tells r ws b t
     → t ≡ ok (0 ∷ []) → b ≡ counted 0
+put_last (answers-page asks) _ _ = elim asks [ ]
 put_last answers-put tells-count e = ap (λ (t : Answer). counted t.value) e
 
 module _ {m : Moment} {xs : List Request} (k : Mirror m xs) where
