@@ -11,7 +11,7 @@ from concurrent.futures import ThreadPoolExecutor
 LINES_OF_LISTS = 6
 LINES_OF_PRINT = 7
 # what builds a program that is not there, by the end of its path
-BUILT_BY = {"bench/target/release/plain": "(cd bench && cargo build --release)", "target/bin/heapsh": "rt check heapsh"}
+BUILT_BY = {"bench/target/release/plain": "(cd bench && cargo build --release)", "crates/heapsh/out/heapsh": "(cd crates/heapsh && rt run < /dev/null)"}
 
 
 def ready(commands):

@@ -3,13 +3,13 @@
 use std::env::{var, var_os};
 use std::path::PathBuf;
 
-/// The archive's folder below the repository's target/, and the command that makes it there: one for user space, one for
-/// targets without an operating system.
+/// The archive's folder in the repository, and the command that makes it there: one for user space, one for targets
+/// without an operating system.
 fn made(system: &str, machine: &str) -> (String, String) {
     match (system, machine) {
-        ("none", _) => (format!("kernel/{machine}"), format!("bindings/kernel {machine}")),
-        (_, "x86_64") => ("staticlib".into(), "rt staticlib abi".into()),
-        _ => ("native".into(), "bench/native abi target/native/libabi.a".into()),
+        ("none", _) => (format!("target/kernel/{machine}"), format!("bindings/kernel {machine}")),
+        (_, "x86_64") => ("crates/abi/out".into(), "(cd crates/abi && rt lib)".into()),
+        _ => (format!("target/{machine}"), format!("bindings/module --for {machine} abi target/{machine}/libabi.a")),
     }
 }
 
@@ -18,7 +18,7 @@ fn main() {
     let (place, command) = made(&target("OS"), &target("ARCH"));
     let folder = match var_os("TINGMUDRA_LIB") {
         Some(folder) => PathBuf::from(folder),
-        None => PathBuf::from(env!("CARGO_MANIFEST_DIR")).join("../../target").join(place),
+        None => PathBuf::from(env!("CARGO_MANIFEST_DIR")).join("../..").join(place),
     };
     let archive = folder.join("libabi.a");
     assert!(archive.is_file(), "no {}: run `{command}`, or set TINGMUDRA_LIB", archive.display());
