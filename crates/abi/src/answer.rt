@@ -6,7 +6,7 @@ use sound_calls::Answer;
 
 // What a call answers: 0 or the number of its refusal, and what it carries, zeros where it carries less.
 #[repr(C)]
-#[derive(Drop)]
+#[derive(Clone, Copy)]
 pub struct Exported {
     pub number: u64,
     pub value: u64,

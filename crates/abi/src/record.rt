@@ -9,6 +9,7 @@ use words::place::VirtAddr;
 pub(crate) const RECORD: usize = 21;
 
 // The record that the numbers say.
+#[tactic(auto, unfolding(crate::specs::Record::unpacked))]
 pub(crate) fn load(numbers: &[u64]) -> HeapMemoryRegion
     requires { length numbers.now ≡ 21 }
     ensures { result ≡ unpacked numbers.now }

@@ -15,7 +15,7 @@ pub const NO: u64 = 0x4000_0001;
 
 // A page's fields: its type's number; order, item size or count; next page. 0 where the type has no such field.
 #[repr(C)]
-#[derive(Drop)]
+#[derive(Clone, Copy)]
 pub struct Fields {
     pub number: u64,
     pub kind: u64,
