@@ -1,4 +1,4 @@
--- What the exported calls promise, in numbers. Promise is what a reader of the contracts rules first.
+-- What the exported calls promise, in numbers. Promise is what a reader of the contracts needs first.
 pub mod Answer
 pub mod Promise
 pub mod Record

@@ -39,7 +39,7 @@ abbrev pub Grants : (ℕ → Bool) → HeapMemoryRegion → Heap → ℕ → Gra
 Grants M r h o refused = Denied r h o
 Grants M r h o (granted g c) = Granted M r h o g c
 
--- the way there, which rules no soundness
+-- the way there, which needs no soundness
 record Given (M : ℕ → Bool) (r : HeapMemoryRegion) (h : Heap) (o : ℕ) (g : Heap) (c : ℕ) : Type 0 where
   ok : GrantOk o (image r h)
   answers : grant_page o (image r h) ≡ At (first o c)

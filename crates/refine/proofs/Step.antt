@@ -1,4 +1,4 @@
--- What a step on the image of a heap does, as a result with names; the bounds and the fit that every step rules.
+-- What a step on the image of a heap does, as a result with names; the bounds and the fit that every step needs.
 use Rattle.common.specs.Kit.{ℕ, ◌+◌, ◌^◌, ◌≤◌, ◌≡◌, ◌∙◌, by_cases, Bool, T, length, ℕ_discrete, arith}
 use Rattle.common.proofs.Bounds.{once-length, count-le}
 use Rattle.buddy.specs.Runs.{cell, first}
