@@ -6,6 +6,7 @@ const BASIS: u64 = 0xcbf2_9ce4_8422_2325;
 
 const PRIME: u64 = 0x100_0000_01b3;
 
+#[tactic(auto, unfolding(crate::specs::Hash::hash_of))]
 pub fn fnv(words: &[u64]) -> u64
     ensures { result ≡ hash_of words.now }
 {
@@ -21,7 +22,7 @@ fn with_word(before: u64, word: u64) -> u64
 {
     let mut hash = before;
     let mut rest = word;
-    for _ in 0..8 {
+    for _ in 0..8usize {
         hash = times_prime(hash ^ (rest % 256));
         rest /= 256;
     }
