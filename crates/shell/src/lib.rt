@@ -46,6 +46,7 @@ pub fn fresh() -> Shell
 }
 
 // Answers a line. The buffer has at least the words that are lent.
+#[tactic(auto, unfolding(crate::specs::Shell::answered))]
 pub fn answer(
     rt: &impl Print,
     shell: Shell,
