@@ -13,7 +13,8 @@ use std::process::ExitCode;
 const BLOCK: usize = 65536;
 
 fn main(rt: HostRuntime) -> ExitCode {
-    let terminal = rt.stdin().is_terminal();
+    let mut reader = rt.stdin();
+    let terminal = reader.is_terminal();
     if terminal {
         let _ = eprintln!(rt;
             "heapsh 0.3.0: a page heap, one request to a line; help lists the requests, quit ends"
@@ -22,7 +23,15 @@ fn main(rt: HostRuntime) -> ExitCode {
     let mut buffer = [shell::RESERVED; shell::MOST_WORDS];
     let mut input = [0u8; BLOCK];
     let mut out = [0u8; BLOCK];
-    if session::serve(&rt, terminal, &mut buffer, &mut input, &mut out) {
+    let written = session::serve(
+        &rt,
+        &mut reader,
+        terminal,
+        &mut buffer,
+        &mut input,
+        &mut out,
+    );
+    if written {
         ExitCode::SUCCESS
     } else {
         ExitCode::FAILURE

@@ -26,20 +26,20 @@ struct Answered {
 // Answers until the input ends, by itself or by `quit`, or an answer cannot be written; says whether all were written. Nothing says that the
 // input ends, so the turns are as many as no run uses up.
 pub fn serve(
-    rt: &(impl Print + Eprint + Input),
+    rt: &(impl Print + Eprint),
+    reader: &mut impl Read,
     terminal: bool,
     buffer: &mut [u64],
     input: &mut [u8],
     out: &mut [u8],
 ) -> bool {
-    let mut reader = rt.reader();
     let mut session = Session {
         shell: fresh(),
         kept: 0,
         ended: false,
     };
     for _ in 0..u64::MAX {
-        session = turn(rt, &mut reader, session, terminal, buffer, input, out);
+        session = turn(rt, reader, session, terminal, buffer, input, out);
         if session.ended {
             return session.shell.used != FAILED;
         }
