@@ -18,7 +18,7 @@ asked_from count values ws =
     (record { count = length ws + count; values = sets values count (map value says) })
     none
 
--- what the first word says rules no request; it is the request from then on
+-- what the first word says needs no request; it is the request from then on
 says_same : (i : ℕ) (values w : List ℕ) (ws : List (List ℕ)) → says_at (request_of i values (w ∷ ws)) i w ≡ says_at (get_or values 0 0) i w
 unfolding says_at
 says_same zero values w ws = refl
