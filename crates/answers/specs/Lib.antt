@@ -1,3 +1,3 @@
--- What the shell answers. Lines is what a reader of the contracts rules first.
+-- What the shell answers. Lines is what a reader of the contracts needs first.
 pub mod Lines
 pub mod Hash

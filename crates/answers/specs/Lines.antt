@@ -6,7 +6,6 @@ use Rattle.words.specs.declared.word.PageInfo.TheVariants as Page
 use Rattle.words.specs.declared.word.Decoded.{Decoded}
 use Rattle.words.specs.declared.word.Decoded.TheVariants.{Info}
 use Rattle.words.specs.declared.word.Encoded.{Encoded}
-use Rattle.words.specs.declared.word.Encoded.TheVariants as Encoded
 use Rattle.sound_calls.specs.declared.Answer.{Answer}
 use Rattle.text.specs.Line.{line}
 use Rattle.text.specs.declared.answer.Line.{Line}

@@ -1,8 +1,9 @@
 // What the requests are, for people.
 use text::text;
 
-pub fn help(out: &mut [u8], at: usize) -> usize {
+pub fn help(rt: &impl Print, out: &mut [u8], at: usize) -> usize {
     text(
+        rt,
         out,
         at,
         b"\

@@ -23,6 +23,7 @@ pub fn number(n: u64) -> Line
 }
 
 // An answer of the heap: `ok` and what it carries, or `no`, the refusal's number and what it carries.
+#[tactic(auto, unfolding(crate::specs::Lines::line_of))]
 pub fn of_answer(answer: Answer) -> Line
     ensures { result ≡ line_of answer }
 {

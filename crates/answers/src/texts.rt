@@ -15,6 +15,7 @@ use words::word::{Decoded, MAX_ORDER, NO_PAGE, PageInfo};
 
 // Writes what a request asks for.
 pub fn write_text(
+    rt: &impl Print,
     out: &mut [u8],
     at: usize,
     request: u64,
@@ -22,62 +23,73 @@ pub fn write_text(
     words: &[u64],
 ) -> usize {
     match request {
-        names::REPORT => report(out, at, memory_info(region, words), false),
-        names::PRINT => report(out, at, memory_info(region, words), true),
-        names::LISTS => lists(out, at, region, words),
-        names::STATE => state(out, at, region, words),
-        _ => help(out, at),
+        names::REPORT => report(rt, out, at, memory_info(region, words), false),
+        names::PRINT => report(rt, out, at, memory_info(region, words), true),
+        names::LISTS => lists(rt, out, at, region, words),
+        names::STATE => state(rt, out, at, region, words),
+        _ => help(rt, out, at),
     }
 }
 
 // The report as twelve numbers, or as the lines that people read.
-fn report(out: &mut [u8], at: usize, report: Report, lines: bool) -> usize {
+fn report(rt: &impl Print, out: &mut [u8], at: usize, report: Report, lines: bool) -> usize {
     let done = report.answer;
     let total = report.total_pages;
     let free = report.free_pages;
     if let Done::Refused(e) = done {
-        return write(out, at, of_answer(of_refusal(e)));
+        return write(rt, out, at, of_answer(of_refusal(e)));
     }
     if lines {
-        return report_lines(out, at, total, free);
+        return report_lines(rt, out, at, total, free);
     }
-    let mut used = six(out, at, b"ok", total, false);
-    used = six(out, used, b"", free, false);
-    text(out, used, b"\n")
+    let mut used = six(rt, out, at, b"ok", total, false);
+    used = six(rt, out, used, b"", free, false);
+    text(rt, out, used, b"\n")
 }
 
 // The record, and the hash of the words.
-fn state(out: &mut [u8], at: usize, region: HeapMemoryRegion, words: &[u64]) -> usize {
-    let mut used = sizes(out, at, region);
-    used = orders(out, used, region);
-    used = text(out, used, b" | ");
-    used = hex(out, used, fnv(words), 16);
-    text(out, used, b"\n")
+fn state(
+    rt: &impl Print,
+    out: &mut [u8],
+    at: usize,
+    region: HeapMemoryRegion,
+    words: &[u64],
+) -> usize {
+    let mut used = sizes(rt, out, at, region);
+    used = orders(rt, out, used, region);
+    used = text(rt, out, used, b" | ");
+    used = hex(rt, out, used, fnv(words), 16);
+    text(rt, out, used, b"\n")
 }
 
-fn sizes(out: &mut [u8], at: usize, region: HeapMemoryRegion) -> usize {
+fn sizes(rt: &impl Print, out: &mut [u8], at: usize, region: HeapMemoryRegion) -> usize {
     let start = region.start_virt;
-    let mut used = decimal(out, at, start.0);
-    used = named(out, used, b" ", region.page_count as u64);
-    named(out, used, b" ", region.allocated as u64)
+    let mut used = decimal(rt, out, at, start.0);
+    used = named(rt, out, used, b" ", region.page_count as u64);
+    named(rt, out, used, b" ", region.allocated as u64)
 }
 
-fn orders(out: &mut [u8], at: usize, region: HeapMemoryRegion) -> usize {
+fn orders(rt: &impl Print, out: &mut [u8], at: usize, region: HeapMemoryRegion) -> usize {
     let total = region.nr_pages;
     let free = region.free_pages;
     let heads = region.next_page;
-    let mut used = six(out, at, b" |", total, false);
-    used = six(out, used, b" |", free, false);
-    six(out, used, b" |", heads, true)
+    let mut used = six(rt, out, at, b" |", total, false);
+    used = six(rt, out, used, b" |", free, false);
+    six(rt, out, used, b" |", heads, true)
 }
 
 // A text and six numbers, or six page numbers.
-fn six(out: &mut [u8], at: usize, first: &[u8], numbers: [usize; 6], pages: bool) -> usize {
-    let mut used = text(out, at, first);
-    let mut i: usize = 0;
-    while i < MAX_ORDER {
-        used = write_value(out, used, value_of(numbers[i], pages));
-        i += 1;
+fn six(
+    rt: &impl Print,
+    out: &mut [u8],
+    at: usize,
+    first: &[u8],
+    numbers: [usize; 6],
+    pages: bool,
+) -> usize {
+    let mut used = text(rt, out, at, first);
+    for n in &numbers {
+        used = write_value(rt, out, used, value_of(*n, pages));
     }
     used
 }
@@ -91,16 +103,23 @@ fn value_of(n: usize, page: bool) -> Value {
 }
 
 // The pages of each list, if all is sound.
-fn lists(out: &mut [u8], at: usize, region: HeapMemoryRegion, words: &[u64]) -> usize {
+fn lists(
+    rt: &impl Print,
+    out: &mut [u8],
+    at: usize,
+    region: HeapMemoryRegion,
+    words: &[u64],
+) -> usize {
     if let Done::Refused(e) = audit(region, words) {
-        return write(out, at, of_answer(of_refusal(e)));
+        return write(rt, out, at, of_answer(of_refusal(e)));
     }
     let heads = region.next_page;
     let counts = region.free_pages;
-    all_lists(out, at, heads, counts, words)
+    all_lists(rt, out, at, heads, counts, words)
 }
 
 fn all_lists(
+    rt: &impl Print,
     out: &mut [u8],
     at: usize,
     heads: [usize; 6],
@@ -108,15 +127,14 @@ fn all_lists(
     words: &[u64],
 ) -> usize {
     let mut used = at;
-    let mut order: usize = 0;
-    while order < MAX_ORDER {
-        used = list(out, used, order, heads[order], counts[order], words);
-        order += 1;
+    for order in 0..MAX_ORDER {
+        used = list(rt, out, used, order, heads[order], counts[order], words);
     }
     used
 }
 
 fn list(
+    rt: &impl Print,
     out: &mut [u8],
     at: usize,
     order: usize,
@@ -124,24 +142,29 @@ fn list(
     count: usize,
     words: &[u64],
 ) -> usize {
-    let mut used = named(out, at, b"list ", order as u64);
-    used = text(out, used, b":");
-    used = pages_from(out, used, head, count, words);
-    text(out, used, b"\n")
+    let mut used = named(rt, out, at, b"list ", order as u64);
+    used = text(rt, out, used, b":");
+    used = pages_from(rt, out, used, head, count, words);
+    text(rt, out, used, b"\n")
 }
 
 // The pages of a list from `head` on, at most `count` of them.
-fn pages_from(out: &mut [u8], at: usize, head: usize, count: usize, words: &[u64]) -> usize {
+fn pages_from(
+    rt: &impl Print,
+    out: &mut [u8],
+    at: usize,
+    head: usize,
+    count: usize,
+    words: &[u64],
+) -> usize {
     let mut used = at;
     let mut page = head;
-    let mut left = count;
-    while 0 < left {
+    for _ in 0..count {
         if page == NO_PAGE {
             return used;
         }
-        used = named(out, used, b" ", page as u64);
+        used = named(rt, out, used, b" ", page as u64);
         page = next_of(words, page);
-        left -= 1;
     }
     used
 }

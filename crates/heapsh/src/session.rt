@@ -2,13 +2,13 @@
 ghost use Rattle.std.specs.Prelude.{◌≤◌, length};
 
 use crate::terminal::{Line, kind, leave, prompt};
-use libc::STDIN_FILENO;
 use parse::input::LONGEST;
 use shell::{Shell, answer, fresh};
+use std::io::Read;
 use text::{FAILED, flush};
 
 // A shell amid its input: `kept` bytes of an unfinished line stand at the front of the input's buffer.
-#[derive(Drop)]
+#[derive(Clone, Copy)]
 struct Session {
     shell: Shell,
     kept: usize,
@@ -16,7 +16,7 @@ struct Session {
 }
 
 // A shell that has answered the lines of a block up to `at`: all whole ones, or up to the line `quit`.
-#[derive(Drop)]
+#[derive(Clone, Copy)]
 struct Answered {
     shell: Shell,
     at: usize,
@@ -24,26 +24,33 @@ struct Answered {
 }
 
 // Answers until the input ends, by itself or by `quit`, or an answer cannot be written; says whether all were written. Nothing says that the
-// input ends, so the turns are counted down from a number that no run uses up.
-pub fn serve(terminal: bool, buffer: &mut [u64], input: &mut [u8], out: &mut [u8]) -> bool {
+// input ends, so the turns are as many as no run uses up.
+pub fn serve(
+    rt: &(impl Print + Eprint),
+    reader: &mut impl Read,
+    terminal: bool,
+    buffer: &mut [u64],
+    input: &mut [u8],
+    out: &mut [u8],
+) -> bool {
     let mut session = Session {
         shell: fresh(),
         kept: 0,
         ended: false,
     };
-    let mut turns = u64::MAX;
-    while 0 < turns {
-        session = turn(session, terminal, buffer, input, out);
+    for _ in 0..u64::MAX {
+        session = turn(rt, reader, session, terminal, buffer, input, out);
         if session.ended {
             return session.shell.used != FAILED;
         }
-        turns -= 1;
     }
     true
 }
 
 // Reads a block and writes the answers to its lines.
 fn turn(
+    rt: &(impl Print + Eprint),
+    reader: &mut impl Read,
     session: Session,
     terminal: bool,
     buffer: &mut [u64],
@@ -51,14 +58,14 @@ fn turn(
     out: &mut [u8],
 ) -> Session {
     let Session { shell, kept, .. } = session;
-    prompt(terminal, kept);
-    let end = read(input, kept);
+    prompt(rt, terminal, kept);
+    let end = read(reader, input, kept);
     if kept < end {
-        return whole_lines(shell, terminal, buffer, input, end, out);
+        return whole_lines(rt, shell, terminal, buffer, input, end, out);
     }
-    leave(terminal);
+    leave(rt, terminal);
     Session {
-        shell: last(shell, terminal, &input[0..end], buffer, out),
+        shell: last(rt, shell, terminal, &input[0..end], buffer, out),
         kept: 0,
         ended: true,
     }
@@ -66,6 +73,7 @@ fn turn(
 
 // Writes the answers to the whole lines of the input up to `end`, and keeps what is left.
 fn whole_lines(
+    rt: &impl Print,
     shell: Shell,
     terminal: bool,
     buffer: &mut [u64],
@@ -75,9 +83,9 @@ fn whole_lines(
 ) -> Session
     requires { end ≤ length input.old }
 {
-    let Answered { shell, at, quit } = block(shell, terminal, &input[0..end], buffer, out);
+    let Answered { shell, at, quit } = block(rt, shell, terminal, &input[0..end], buffer, out);
     let kept = keep(input, at, end);
-    let shell = written(shell, out);
+    let shell = written(rt, shell, out);
     Session {
         shell,
         kept,
@@ -85,54 +93,76 @@ fn whole_lines(
     }
 }
 
-// Reads after the first `kept` bytes, and answers where what was read ends: no further than these where the input has ended.
-fn read(input: &mut [u8], kept: usize) -> usize
+// Reads after the first `kept` bytes, and answers where what was read ends: no further than these where the input has ended, or a read fails.
+fn read(reader: &mut impl Read, input: &mut [u8], kept: usize) -> usize
     ensures { result ≤ length input.new }
 {
     if input.len() < kept {
         return 0;
     }
-    let got = libc::read(STDIN_FILENO, &mut input[kept..]);
-    kept + io::count(got, &input[kept..])
+    match reader.read(&mut input[kept..]) {
+        Ok(count) => kept + count,
+        Err(_) => kept,
+    }
 }
 
 // Answers the line that no newline ends, if there is one.
-fn last(shell: Shell, terminal: bool, line: &[u8], buffer: &mut [u64], out: &mut [u8]) -> Shell {
+fn last(
+    rt: &impl Print,
+    shell: Shell,
+    terminal: bool,
+    line: &[u8],
+    buffer: &mut [u64],
+    out: &mut [u8],
+) -> Shell {
     if line.len() == 0 {
         return shell;
     }
-    let after = hear(shell, kind(terminal, line), line, buffer, out);
-    written(after, out)
+    let after = hear(rt, shell, kind(terminal, line), line, buffer, out);
+    written(rt, after, out)
 }
 
 // Answers a line that is a request.
-fn hear(shell: Shell, kind: Line, line: &[u8], buffer: &mut [u64], out: &mut [u8]) -> Shell {
+fn hear(
+    rt: &impl Print,
+    shell: Shell,
+    kind: Line,
+    line: &[u8],
+    buffer: &mut [u64],
+    out: &mut [u8],
+) -> Shell {
     let Line::Request = kind else {
         return shell;
     };
-    answer(shell, line, buffer, out)
+    answer(rt, shell, line, buffer, out)
 }
 
 // All answers so far are written.
-fn written(shell: Shell, out: &[u8]) -> Shell {
+fn written(rt: &impl Print, shell: Shell, out: &[u8]) -> Shell {
     let Shell { region, lent, used } = shell;
     Shell {
         region,
         lent,
-        used: flush(out, used),
+        used: flush(rt, out, used),
     }
 }
 
 // Answers the lines of a block.
-fn block(before: Shell, terminal: bool, text: &[u8], buffer: &mut [u64], out: &mut [u8]) -> Answered
+fn block(
+    rt: &impl Print,
+    before: Shell,
+    terminal: bool,
+    text: &[u8],
+    buffer: &mut [u64],
+    out: &mut [u8],
+) -> Answered
     ensures { result.at ≤ length text.now }
 {
     let mut shell = before;
     let mut at: usize = 0;
-    let mut end = bytes::scan::find(text, 0, text.len(), b'\n');
-    while end < text.len() {
-        let line = &text[at..end];
-        at = end + 1;
+    while let Some(bytes) = text[at..].iter().position(|b| *b == b'\n') {
+        let line = &text[at..at + bytes];
+        at += bytes + 1;
         let kind = kind(terminal, line);
         if let Line::Quit = kind {
             return Answered {
@@ -141,8 +171,7 @@ fn block(before: Shell, terminal: bool, text: &[u8], buffer: &mut [u64], out: &m
                 quit: true,
             };
         }
-        shell = hear(shell, kind, line, buffer, out);
-        end = bytes::scan::find(text, at, text.len(), b'\n');
+        shell = hear(rt, shell, kind, line, buffer, out);
     }
     Answered {
         shell,
@@ -156,14 +185,7 @@ fn block(before: Shell, terminal: bool, text: &[u8], buffer: &mut [u64], out: &m
 fn keep(input: &mut [u8], from: usize, to: usize) -> usize
     requires { (from ≤ to) × (to ≤ length input.old) }
 {
-    let left = to - from;
-    let mut i: usize = 0;
-    while i < left {
-        if LONGEST < i {
-            return i;
-        }
-        input[i] = input[from + i];
-        i += 1;
-    }
-    i
+    let kept = (to - from).min(LONGEST + 1);
+    input.copy_within(from..from + kept, 0);
+    kept
 }

@@ -1,12 +1,11 @@
 // What a person at a terminal has beside the answers: a prompt, lines that are passed over, and `quit`. A script has none of it. What is not
 // an answer goes to standard error.
-use libc::STDERR_FILENO;
 use parse::input::{Command, parse};
 
 // The name `quit`, as parse::names has names.
 const QUIT: u64 = 0x7175_6974;
 
-#[derive(Drop)]
+#[derive(Clone, Copy)]
 pub enum Line {
     Request,
     Silent,
@@ -29,10 +28,9 @@ pub fn kind(terminal: bool, line: &[u8]) -> Line {
 
 // Whether a line is white space alone, or a comment.
 fn is_silent(line: &[u8]) -> bool {
-    let mut i: usize = 0;
-    while i < line.len() {
-        match line[i] {
-            b' ' | 9..=13 => i += 1,
+    for b in line {
+        match *b {
+            b' ' | 9..=13 => {}
             b => return b == b'#',
         }
     }
@@ -45,15 +43,15 @@ fn is_quit(line: &[u8]) -> bool {
 }
 
 // Asks for a line, unless `kept` bytes of one stand there already.
-pub fn prompt(terminal: bool, kept: usize) {
+pub fn prompt(rt: &impl Eprint, terminal: bool, kept: usize) {
     if terminal && kept == 0 {
-        io::write_all(STDERR_FILENO, b"> ");
+        let _ = rt.eprint("> ");
     }
 }
 
 // Leaves the line on which the input has ended.
-pub fn leave(terminal: bool) {
+pub fn leave(rt: &impl Eprint, terminal: bool) {
     if terminal {
-        io::write_all(STDERR_FILENO, b"\n");
+        let _ = rt.eprint("\n");
     }
 }

@@ -1,5 +1,5 @@
 -- A request is read word by word: after `count` good words the others go on from there, and a bad word or a fifth one spoils it.
-use Rattle.common.specs.Kit.{ℕ, zero, suc, ◌+◌, ◌≤◌, ◌≡◌, refl, cond, ◌&&◌, and-false, List, [], ◌∷◌, map, leb, length, get_or, set, replicate, zero-add, add-one, arith, le-leb, lt-leb}
+use Rattle.common.specs.Kit.{ℕ, zero, suc, ◌+◌, ◌≤◌, ◌≡◌, refl, ap, cond, ◌&&◌, and-false, List, [], ◌∷◌, map, leb, length, get_or, set, replicate, zero-add, add-one, arith, le-leb, lt-leb}
 use lib.Seq.{sets}
 use Rattle.parse.specs.declared.input.Number.TheVariants.{Is, Bad}
 use Rattle.parse.specs.declared.input.Command.{Command}
@@ -18,7 +18,7 @@ asked_from count values ws =
     (record { count = length ws + count; values = sets values count (map value says) })
     none
 
--- what the first word says rules no request; it is the request from then on
+-- what the first word says needs no request; it is the request from then on
 says_same : (i : ℕ) (values w : List ℕ) (ws : List (List ℕ)) → says_at (request_of i values (w ∷ ws)) i w ≡ says_at (get_or values 0 0) i w
 unfolding says_at
 says_same zero values w ws = refl
@@ -60,4 +60,6 @@ module _ (count : ℕ) (values : List ℕ) (w : List ℕ) (ws : List (List ℕ))
   unfolding asked_from
   asked-good v h e =
       let k : suc (length ws) + count ≡ length ws + suc count = omega arith in
-      rw (add-one, says_same count values w ws, e, request-next count values w ws v h e, k)
+      rw (add-one, says_same count values w ws, e, k) (ap (λ q. cond (leb (length ws + suc count) 4 && all_good (says_from q (suc count) ws))
+      (record { count = length ws + suc count; values = sets (set values count v) (suc count) (map value (says_from q (suc count) ws)) })
+      none) (request-next count values w ws v h e))

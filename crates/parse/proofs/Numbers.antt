@@ -1,5 +1,5 @@
 -- What digits or letters say goes on from what the ones before them said, byte by byte; a number that is too big stays so.
-use Rattle.common.specs.Kit.{ℕ, ◌+◌, ◌*◌, ◌^◌, ◌≤◌, ◌<◌, ◌≡◌, sym, ◌∙◌, cond, ◌&&◌, and-false, List, [], ◌∷◌, leb, ltb, length, get_or, drop, drop_of_length-le, drop-cons, add-one, arith, lt-ltb, le-ltb, le-leb, lt-leb}
+use Rattle.common.specs.Kit.{ℕ, ◌+◌, ◌*◌, ◌^◌, ◌≤◌, ◌<◌, ◌≡◌, sym, ◌∙◌, cond, ◌&&◌, and-false, List, [], ◌∷◌, leb, ltb, length, get_or, drop, drop-cons, add-one, arith, lt-ltb, le-ltb}
 use native.Mathlib.Nat.{le-mul_of_pos_right}
 use Rattle.parse.specs.declared.input.Number.{Number}
 use Rattle.parse.specs.declared.input.Number.TheVariants.{Is, Bad}
@@ -20,14 +20,6 @@ module _ {r : Number} (base n i : ℕ) (w : List ℕ) (left : r ≡ number_from 
   unfolding number_from
   number-next d h e k = left ∙ rw (e, add-one, drop-cons w i 0, lt-ltb (digit_of (get_or w i 0)) base (rw e at k))
 
-  pub number-bad : (d : ℕ) → i < length w → d ≡ digit_of (get_or w i 0) → base ≤ d → Bad ≡ r
-  unfolding number_from
-  number-bad d h e k = sym (left ∙ rw (drop-cons w i 0, ← e, le-ltb d base k))
-
-  pub number-ends : length w ≤ i → n < 2 ^ 64 → Is n ≡ r
-  unfolding number_from
-  number-ends h k = sym (left ∙ rw (drop_of_length-le w h, lt-ltb n (2 ^ 64) k))
-
 pub number-big : {r : Number} (base n : ℕ) (w : List ℕ) → r ≡ number_from base n w → 1 ≤ base → 2 ^ 64 ≤ n → Bad ≡ r
 unfolding number_from
 number-big base n w left one h =
@@ -36,16 +28,3 @@ number-big base n w left one h =
 -- the name that goes on from n
 unfoldable pub name_from : ℕ → List ℕ → ℕ
 name_from n w = cond (every (λ b. leb 97 b) w) (value_from 256 (λ b. b) n w) 0
-
-module _ {r : ℕ} (n i : ℕ) (w : List ℕ) (left : r ≡ name_from n (drop i w)) where
-  pub name-next : i < length w → 97 ≤ get_or w i 0 → r ≡ name_from (n * 256 + get_or w i 0) (drop (i + 1) w)
-  unfolding name_from
-  name-next h k = left ∙ rw (add-one, drop-cons w i 0, le-leb 97 (get_or w i 0) k)
-
-  pub name-none : i < length w → get_or w i 0 < 97 → 0 ≡ r
-  unfolding name_from
-  name-none h k = sym (left ∙ rw (drop-cons w i 0, lt-leb 97 (get_or w i 0) k))
-
-  pub name-ends : length w ≤ i → n ≡ r
-  unfolding name_from
-  name-ends h = sym (left ∙ rw (drop_of_length-le w h))

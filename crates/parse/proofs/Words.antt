@@ -1,23 +1,8 @@
 -- Past the white space of a line there is either nothing more, or a run of other bytes that is the next word.
-use Rattle.common.specs.Kit.{ℕ, ◌+◌, ◌-◌, ◌≤◌, ◌<◌, ◌≡◌, refl, sym, ap, ◌∙◌, Bool, true, false, List, [], ◌∷◌, length, get_or, take, drop, length-drop, drop_of_length-le, drop-cons, take_all, add-zero, add-one, arith}
+use Rattle.common.specs.Kit.{ℕ, ◌-◌, ◌≤◌, ◌<◌, ◌≡◌, refl, ap, ◌∙◌, true, false, List, [], ◌∷◌, length, take, drop, length-drop, take_all, arith}
 use native.Mathlib.Nat.{sub-zero}
-use mathlib.Core.Bool.{beq}
 use Rattle.common.proofs.Tests.{by-test}
 use Rattle.parse.specs.Line.{blank, run_of, before, words_of}
-
--- a run that got to i; s is the test of the byte there
-module _ (t : Bool) (i : ℕ) (l : List ℕ) (past : run_of t l ≡ i + run_of t (drop i l)) where
-  pub run_more : (s : Bool) → i < length l → s ≡ blank (get_or l i 0) → beq s t ≡ true → run_of t l ≡ i + 1 + run_of t (drop (i + 1) l)
-  unfolding run_of
-  run_more s h e k = past ∙ rw (drop-cons l i 0, ← e, k, add-one) (omega arith)
-
-  pub run-stops : (s : Bool) → i < length l → s ≡ blank (get_or l i 0) → beq s t ≡ false → i ≡ run_of t l
-  unfolding run_of
-  run-stops s h e k = sym (past ∙ rw (drop-cons l i 0, ← e, k) (add-zero i))
-
-  pub run_ends : length l ≤ i → i ≡ run_of t l
-  unfolding run_of
-  run_ends h = sym (past ∙ rw (drop_of_length-le l h) (add-zero i))
 
 words-blank : (l : List ℕ) → length l ≤ run_of true l → words_of l ≡ []
 unfolding run_of words_of

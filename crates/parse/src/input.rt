@@ -8,20 +8,21 @@ use crate::names;
 pub const LONGEST: usize = 200;
 
 // What the `count` words of a line say, the name first. No words: no request.
-#[derive(Drop)]
+#[derive(Clone, Copy)]
 pub struct Command {
     pub count: usize,
     pub values: [u64; 4],
 }
 
 // What a word says.
-#[derive(Drop)]
+#[derive(Clone, Copy)]
 enum Number {
     Is(u64),
     Bad,
 }
 
 // Takes a line apart: at most four words, and none of them bad.
+#[tactic(auto, unfolding(crate::specs::Line::parsed))]
 pub fn parse(line: &[u8]) -> Command
     ensures { result ≡ parsed line.now }
 {
@@ -61,6 +62,7 @@ fn none() -> Command
 }
 
 // What the word number `i` of a request says: a name, hex digits where the request has these, else a number.
+#[tactic(auto, unfolding(crate::specs::Line::says_at))]
 fn word(request: u64, i: usize, word: &[u8]) -> Number
     ensures { result ≡ says_at request i word.now }
 {
@@ -82,6 +84,7 @@ fn word(request: u64, i: usize, word: &[u8]) -> Number
 }
 
 // How many bytes at the start are white space, or how many are not.
+#[tactic(auto, unfolding(crate::specs::Line::run_of))]
 fn run(text: &[u8], blanks: bool) -> usize
     ensures { (result ≤ length text.now) × (result ≡ run_of blanks text.now) }
 {
@@ -106,6 +109,7 @@ fn is_blank(b: u8) -> bool
 }
 
 // A word as names.rt writes names; 0 for one that is none of them.
+#[tactic(auto, unfolding(crate::specs::Line::name_of, crate::proofs::Numbers::name_from))]
 fn name(word: &[u8]) -> u64
     ensures { result ≡ name_of word.now }
 {
@@ -140,6 +144,7 @@ fn hex(word: &[u8]) -> Number
 }
 
 // 1 to `longest` digits, if what they say fits.
+#[tactic(auto, unfolding(crate::specs::Line::number_of, crate::proofs::Numbers::number_from))]
 fn digits(word: &[u8], base: u64, longest: usize) -> Number
     requires { 1 ≤ base }
     ensures { result ≡ number_of base longest word.now }

@@ -6,7 +6,7 @@ use heap::start::root_mem_init;
 use text::lines::report_lines;
 use words::place::VirtAddr;
 
-fn main() {
+fn main(rt: HostRuntime) {
     let mut buf = [15u64; 4096];
     let words = &mut buf[0..64];
     let done = root_mem_init(VirtAddr(1048576), 64, 3, words);
@@ -14,7 +14,7 @@ fn main() {
     let report = memory_info(region, words);
     let total = report.total_pages;
     let free = report.free_pages;
-    let mut out = io::buffer();
-    let used = report_lines(&mut out, 0, total, free);
-    text::flush(&out, used);
+    let mut out = [0u8; 4096];
+    let used = report_lines(&rt, &mut out, 0, total, free);
+    text::flush(&rt, &out, used);
 }

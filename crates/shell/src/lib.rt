@@ -28,7 +28,7 @@ pub const RESERVED: u64 = 15;
 
 // What is kept from line to line beside the buffers: the record, how many words are lent, and how many bytes of answers wait, or that a write
 // has failed (`text::FAILED`).
-#[derive(Drop)]
+#[derive(Clone, Copy)]
 pub struct Shell {
     pub region: HeapMemoryRegion,
     pub lent: usize,
@@ -46,7 +46,14 @@ pub fn fresh() -> Shell
 }
 
 // Answers a line. The buffer has at least the words that are lent.
-pub fn answer(shell: Shell, line: &[u8], buffer: &mut [u64], out: &mut [u8]) -> Shell
+#[tactic(auto, unfolding(crate::specs::Shell::answered))]
+pub fn answer(
+    rt: &impl Print,
+    shell: Shell,
+    line: &[u8],
+    buffer: &mut [u64],
+    out: &mut [u8],
+) -> Shell
     ensures { held result.region result.lent buffer.new ≡ answered shell.region shell.lent buffer.old line.now }
 {
     let Shell { region, lent, used } = shell;
@@ -54,11 +61,18 @@ pub fn answer(shell: Shell, line: &[u8], buffer: &mut [u64], out: &mut [u8]) -> 
         return shell;
     }
     let done = act(region, &mut buffer[0..lent], parse(line));
-    finish(done, lent, used, buffer, out)
+    finish(rt, done, lent, used, buffer, out)
 }
 
 // Writes the reply, and lends other words if it says so.
-fn finish(done: Step, lent: usize, used: usize, buffer: &mut [u64], out: &mut [u8]) -> Shell
+fn finish(
+    rt: &impl Print,
+    done: Step,
+    lent: usize,
+    used: usize,
+    buffer: &mut [u64],
+    out: &mut [u8],
+) -> Shell
     requires { lent ≤ length buffer.old }
     ensures { held result.region result.lent buffer.new ≡ settled done.region lent buffer.old done.reply }
 {
@@ -67,17 +81,17 @@ fn finish(done: Step, lent: usize, used: usize, buffer: &mut [u64], out: &mut [u
         Reply::Line(line) => Shell {
             region,
             lent,
-            used: write(out, used, line),
+            used: write(rt, out, used, line),
         },
         Reply::Lent(n) => Shell {
             region,
             lent: reserve(buffer, n),
-            used: write(out, used, bare(Word::Ok)),
+            used: write(rt, out, used, bare(Word::Ok)),
         },
         Reply::Text(request) => Shell {
             region,
             lent,
-            used: write_text(out, used, request, region, &buffer[0..lent]),
+            used: write_text(rt, out, used, request, region, &buffer[0..lent]),
         },
     }
 }

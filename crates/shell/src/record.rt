@@ -12,6 +12,7 @@ use words::place::VirtAddr;
 use words::word::MAX_ORDER;
 
 // Overwrites a field: one of an array, where `i` is an order, or one that stands alone, where it is 0.
+#[tactic(auto, unfolding(crate::specs::Request::has_field, crate::specs::Request::with_three))]
 pub fn field(region: HeapMemoryRegion, name: u64, i: usize, value: u64) -> Step
     ensures { (ws : List ℕ) → did result.region ws result.reply ≡ with_three region ws Name.field name i value }
 {
@@ -22,6 +23,7 @@ pub fn field(region: HeapMemoryRegion, name: u64, i: usize, value: u64) -> Step
     }
 }
 
+#[tactic(auto, unfolding(crate::specs::Request::has_field))]
 fn has_field(name: u64, i: usize) -> bool
     ensures { result ≡ has_field name i }
 {
@@ -32,6 +34,7 @@ fn has_field(name: u64, i: usize) -> bool
     }
 }
 
+#[tactic(auto, unfolding(crate::specs::Request::with_field))]
 fn with_field(mut region: HeapMemoryRegion, name: u64, i: usize, value: u64) -> HeapMemoryRegion
     requires { i < 6 }
     ensures { result ≡ with_field region name i value }

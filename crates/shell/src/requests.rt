@@ -22,6 +22,7 @@ use text::answer::{Line, Word, bare};
 use words::place::VirtAddr;
 
 // Does what a request asks for. It is known by its name and the count of its words.
+#[tactic(auto, unfolding(crate::specs::Request::acted))]
 pub fn act(region: HeapMemoryRegion, words: &mut [u64], request: Command) -> Step
     ensures { did result.region words.new result.reply ≡ acted region words.old request }
 {
@@ -37,6 +38,7 @@ pub fn act(region: HeapMemoryRegion, words: &mut [u64], request: Command) -> Ste
 }
 
 // A name alone.
+#[tactic(auto, unfolding(crate::specs::Request::alone))]
 fn plain(region: HeapMemoryRegion, words: &mut [u64], name: u64) -> Step
     ensures { did result.region words.new result.reply ≡ alone region words.old name }
 {
@@ -55,6 +57,7 @@ fn plain(region: HeapMemoryRegion, words: &mut [u64], name: u64) -> Step
 }
 
 // A name and a number.
+#[tactic(auto, unfolding(crate::specs::Request::with_number))]
 fn with_number(region: HeapMemoryRegion, words: &mut [u64], name: u64, n: u64) -> Step
     ensures { did result.region words.new result.reply ≡ with_number region words.old name n }
 {
@@ -82,6 +85,7 @@ fn with_number(region: HeapMemoryRegion, words: &mut [u64], name: u64, n: u64) -
 }
 
 // A name and a number, where nothing changes.
+#[tactic(auto, unfolding(crate::specs::Request::reads))]
 fn read_with(region: HeapMemoryRegion, words: &[u64], name: u64, n: u64) -> Line
     ensures { result ≡ reads region words.now name n }
 {
@@ -95,6 +99,7 @@ fn read_with(region: HeapMemoryRegion, words: &[u64], name: u64, n: u64) -> Line
 }
 
 // So many words, all Reserved, and the empty record.
+#[tactic(auto, unfolding(crate::specs::Request::with_number))]
 fn lend(region: HeapMemoryRegion, n: usize) -> Step
     ensures { (ws : List ℕ) → did result.region ws result.reply ≡ with_number region ws Name.words n }
 {
@@ -108,6 +113,7 @@ fn lend(region: HeapMemoryRegion, n: usize) -> Step
     }
 }
 
+#[tactic(auto, unfolding(crate::specs::Request::reads))]
 fn word_at(words: &[u64], i: usize) -> Line
     ensures { (r : HeapMemoryRegion) → result ≡ reads r words.now Name.word i }
 {
@@ -119,6 +125,7 @@ fn word_at(words: &[u64], i: usize) -> Line
 }
 
 // A name and two numbers.
+#[tactic(auto, unfolding(crate::specs::Request::with_two))]
 fn with_two(words: &mut [u64], name: u64, x: u64, y: u64) -> Line
     ensures { (r : HeapMemoryRegion) → says r words.new result ≡ with_two r words.old name x y }
 {
@@ -128,6 +135,7 @@ fn with_two(words: &mut [u64], name: u64, x: u64, y: u64) -> Line
     }
 }
 
+#[tactic(auto, unfolding(crate::specs::Request::with_two))]
 fn poke(words: &mut [u64], i: usize, w: u64) -> Line
     ensures { (r : HeapMemoryRegion) → says r words.new result ≡ with_two r words.old Name.poke i w }
 {
@@ -140,6 +148,7 @@ fn poke(words: &mut [u64], i: usize, w: u64) -> Line
 }
 
 // A name and three numbers; `field` has a name for the first.
+#[tactic(auto, unfolding(crate::specs::Request::with_three))]
 fn with_three(
     region: HeapMemoryRegion,
     words: &mut [u64],

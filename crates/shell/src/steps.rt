@@ -9,7 +9,7 @@ use sound_calls::Answer;
 use text::answer::Line;
 
 // What the shell replies to a request. (An `Answer` is the heap's, to a call.)
-#[derive(Drop)]
+#[derive(Clone, Copy)]
 pub enum Reply {
     Line(Line),
     // So many words are lent from now on.
@@ -18,7 +18,7 @@ pub enum Reply {
     Text(u64),
 }
 
-#[derive(Drop)]
+#[derive(Clone, Copy)]
 pub struct Step {
     pub region: HeapMemoryRegion,
     pub reply: Reply,

@@ -4,7 +4,7 @@ ghost use Rattle.text.specs.Line.{line};
 
 use crate::{hex, named, text};
 
-#[derive(Drop)]
+#[derive(Clone, Copy)]
 pub enum Word {
     Ok,
     No,
@@ -19,7 +19,7 @@ pub enum Word {
     Hex(u64),
 }
 
-#[derive(Drop)]
+#[derive(Clone, Copy)]
 pub enum Value {
     None,
     Number(u64),
@@ -27,7 +27,7 @@ pub enum Value {
     NoPage,
 }
 
-#[derive(Drop)]
+#[derive(Clone, Copy)]
 pub struct Line {
     word: Word,
     first: Value,
@@ -64,43 +64,43 @@ pub fn with_all(word: Word, first: Value, second: Value, third: Value) -> Line
     }
 }
 
-pub fn write(out: &mut [u8], at: usize, line: Line) -> usize {
+pub fn write(rt: &impl Print, out: &mut [u8], at: usize, line: Line) -> usize {
     let word = line.word;
     let first = line.first;
     let second = line.second;
     let third = line.third;
-    let mut used = write_word(out, at, word);
-    used = write_value(out, used, first);
-    used = write_value(out, used, second);
-    used = write_value(out, used, third);
-    text(out, used, b"\n")
+    let mut used = write_word(rt, out, at, word);
+    used = write_value(rt, out, used, first);
+    used = write_value(rt, out, used, second);
+    used = write_value(rt, out, used, third);
+    text(rt, out, used, b"\n")
 }
 
-fn write_word(out: &mut [u8], at: usize, word: Word) -> usize {
+fn write_word(rt: &impl Print, out: &mut [u8], at: usize, word: Word) -> usize {
     match word {
-        Word::Ok => text(out, at, b"ok"),
-        Word::No => text(out, at, b"no"),
-        Word::Bad => text(out, at, b"bad"),
-        Word::Out => text(out, at, b"out"),
-        Word::Free => text(out, at, b"free"),
-        Word::Allocated => text(out, at, b"allocated"),
-        Word::Slab => text(out, at, b"slab"),
-        Word::Compound => text(out, at, b"compound"),
-        Word::File => text(out, at, b"file"),
-        Word::Reserved => text(out, at, b"reserved"),
-        Word::Hex(w) => hex(out, at, w, 1),
+        Word::Ok => text(rt, out, at, b"ok"),
+        Word::No => text(rt, out, at, b"no"),
+        Word::Bad => text(rt, out, at, b"bad"),
+        Word::Out => text(rt, out, at, b"out"),
+        Word::Free => text(rt, out, at, b"free"),
+        Word::Allocated => text(rt, out, at, b"allocated"),
+        Word::Slab => text(rt, out, at, b"slab"),
+        Word::Compound => text(rt, out, at, b"compound"),
+        Word::File => text(rt, out, at, b"file"),
+        Word::Reserved => text(rt, out, at, b"reserved"),
+        Word::Hex(w) => hex(rt, out, at, w, 1),
     }
 }
 
 // A value, after a blank.
-pub fn write_value(out: &mut [u8], at: usize, value: Value) -> usize {
+pub fn write_value(rt: &impl Print, out: &mut [u8], at: usize, value: Value) -> usize {
     match value {
         Value::None => at,
-        Value::Number(n) => named(out, at, b" ", n),
+        Value::Number(n) => named(rt, out, at, b" ", n),
         Value::Hex(w) => {
-            let used = text(out, at, b" ");
-            hex(out, used, w, 1)
+            let used = text(rt, out, at, b" ");
+            hex(rt, out, used, w, 1)
         }
-        Value::NoPage => text(out, at, b" -"),
+        Value::NoPage => text(rt, out, at, b" -"),
     }
 }

@@ -1,2 +1,0 @@
--- What several proofs of the shell share.
-pub mod Keys
