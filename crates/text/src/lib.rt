@@ -82,8 +82,9 @@ pub fn column(rt: &impl Print, out: &mut [u8], at: usize, n: u64) -> usize {
     waiting.at
 }
 
-// A number in lower-case hexadecimal, with zeros in front up to `width` digits.
+// A number in lower-case hexadecimal, with zeros in front up to `width` digits, of 16 at most.
 pub fn hex(rt: &impl Print, out: &mut [u8], at: usize, n: u64, width: usize) -> usize {
+    let width = width.min(16);
     let mut waiting = Waiting { rt, out, at };
     let _ = write!(waiting, "{n:0width$x}");
     waiting.at
