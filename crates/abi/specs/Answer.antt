@@ -1,5 +1,5 @@
 -- An answer as C programs get it: its number, 0 for none, and the values that it carries, zeros where it carries less than two.
-use Rattle.common.specs.Kit.{ℕ, []}
+use Rattle.std.specs.Prelude.{ℕ, []}
 use Rattle.sound_calls.specs.Answer.{no}
 use Rattle.sound_calls.specs.declared.Answer.{Answer}
 use Rattle.abi.specs.declared.answer.Exported.{Exported}

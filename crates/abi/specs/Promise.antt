@@ -1,6 +1,6 @@
 -- What each exported call promises, for all input: its answer and every number of its buffers. A record of 21 numbers is a region's, and the call
 -- does what the heap promises of that region; a buffer of another length is refused, and nothing changes.
-use Rattle.common.specs.Kit.{ℕ, cond, ◌&&◌, List, [], ◌++◌, eqb, length}
+use Rattle.std.specs.Prelude.{ℕ, cond, ◌&&◌, List, [], ◌++◌, eqb, length}
 use Rattle.region.specs.declared.HeapMemoryRegion.{HeapMemoryRegion}
 use Rattle.buddy.specs.Request.{Request}
 use Rattle.sound_calls.specs.Answer.{ok, result_of, Result}

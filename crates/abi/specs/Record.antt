@@ -1,5 +1,5 @@
 -- The record as 21 numbers: start, page count and boot pages, then blocks, free blocks and list heads, each by order.
-use Rattle.common.specs.Kit.{ℕ, ◌+◌, List, ◌∷◌, ◌++◌, get_or, take, drop}
+use Rattle.std.specs.Prelude.{ℕ, ◌+◌, List, ◌∷◌, ◌++◌, get_or, take, drop}
 use Rattle.region.specs.declared.HeapMemoryRegion.{HeapMemoryRegion}
 
 abbrev pub packed : HeapMemoryRegion → List ℕ

@@ -1,5 +1,5 @@
 -- Page words as numbers: a page's raw fields. `no_number` stands for the plain "no".
-use Rattle.common.specs.Kit.{ℕ}
+use Rattle.std.specs.Prelude.{ℕ}
 use Rattle.words.specs.RawFields.{fields_of}
 use Rattle.words.specs.declared.word.Decoded.{Decoded}
 use Rattle.words.specs.declared.word.Decoded.TheVariants.{Info}

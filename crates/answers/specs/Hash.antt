@@ -1,6 +1,6 @@
 -- The 64-bit FNV-1a hash of words, each as eight bytes, the low one first.
 use Rattle.std.specs.Prelude.{bit_xor}
-use Rattle.common.specs.Kit.{ℕ, zero, suc, ◌*◌, ◌/◌, ◌%◌, ◌^◌, List, [], ◌∷◌}
+use Rattle.std.specs.Prelude.{ℕ, zero, suc, ◌*◌, ◌/◌, ◌%◌, ◌^◌, List, [], ◌∷◌}
 
 abbrev pub basis : ℕ
 basis = 0xcbf29ce484222325

@@ -1,5 +1,5 @@
 -- Answers as lines (README.md, "The shell"): `ok` or `no`, and what an answer of the heap carries; and what a word says.
-use Rattle.common.specs.Kit.{ℕ, cond, List, [], ◌∷◌, eqb, ltb}
+use Rattle.std.specs.Prelude.{ℕ, cond, List, [], ◌∷◌, eqb, ltb}
 use Rattle.words.specs.Word.{no_page}
 use Rattle.words.specs.declared.word.PageInfo.{PageInfo}
 use Rattle.words.specs.declared.word.PageInfo.TheVariants as Page

@@ -1,5 +1,5 @@
 -- Tallies of pages by order: nothing at page 0, none more over a page that is not in M, one more over a block, and no count passes the pages.
-use Rattle.common.specs.Kit.{ℕ, ◌+◌, ◌≤◌, ◌<◌, ◌≡◌, refl, sym, ap, ◌∙◌, Bool, true, false, ◌&&◌, and-false, List, eqb, length, get_or, replicate, length-set, get_or-replicate, List·getD-eq-default, get_or-set_same, get_or-set_other, ℕ_discrete, dec_lt, arith, eq-eqb, ne_eqb}
+use Rattle.common.specs.Kit.{ℕ, ◌+◌, ◌≤◌, ◌<◌, ◌≡◌, refl, sym, ap, ◌∙◌, Bool, true, false, ◌&&◌, and-false, List, eqb, length, get_or, replicate, length-set, get_or-replicate, get_or-eq_default, get_or-set_same, get_or-set_other, ℕ_discrete, dec_lt, arith, eq-eqb, ne_eqb}
 use Rattle.common.specs.Numbers.{one, count}
 use Rattle.common.proofs.Counts.{count-run}
 use Rattle.common.proofs.Bounds.{count-le}
@@ -30,7 +30,7 @@ module _ (f : ℕ → ℕ) (M : ℕ → Bool) where
   tally-most p {l} t o =
       elim (dec_lt o 6) [
         | yes h ↦ omega (arith, t.each o h, count-le (λ q. M q && eqb (f q) o) p)
-        | no h ↦ omega (arith, List·getD-eq-default l 0 {n = o} (omega (arith, t.long)))
+        | no h ↦ omega (arith, get_or-eq_default l 0 {n = o} (omega (arith, t.long)))
       ]
 
   -- a page, and pages with no order after it

@@ -1,5 +1,5 @@
 -- Cases of the audit: region R of the customer's cases after set-up, one page, a small state, and states that break one line each.
-use Rattle.common.specs.Kit.{ℕ, ◌-◌, ◌*◌, ◌^◌, Bool, true, false, cond, List, [], ◌∷◌, ◌++◌, map, set, take, replicate}
+use Rattle.std.specs.Prelude.{ℕ, ◌-◌, ◌*◌, ◌^◌, Bool, true, false, cond, List, [], ◌∷◌, ◌++◌, map, set, take, replicate}
 use Rattle.words.specs.Word.{no_page, mem_of}
 use Rattle.words.specs.declared.word.PageInfo.{PageInfo}
 use Rattle.pages.specs.Info.{free_info, allocated_info, slab_info, compound_info, file_info, reserved_info}

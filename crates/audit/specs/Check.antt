@@ -1,6 +1,6 @@
 -- The executable form of soundness: a test for each of S1 to S13, of any record and any words. The managed pages are a set M, as they are in `Sound`.
 -- It is total and computes; what a `let` holds is computed only where it is asked for. That it decides `Sound` is the law `sound-decides`.
-use Rattle.common.specs.Kit.{ℕ, zero, suc, ◌+◌, ◌-◌, ◌*◌, ◌%◌, ◌^◌, Bool, true, cond, not, ◌&&◌, ◌||◌, List, [], ◌∷◌, eqb, leb, ltb, length, get_or}
+use Rattle.std.specs.Prelude.{ℕ, zero, suc, ◌+◌, ◌-◌, ◌*◌, ◌%◌, ◌^◌, Bool, true, cond, not, ◌&&◌, ◌||◌, List, [], ◌∷◌, eqb, leb, ltb, length, get_or}
 use Rattle.words.specs.Word.{no_page, mem_of}
 use Rattle.words.specs.declared.word.PageInfo.{PageInfo}
 use Rattle.pages.specs.Info.{allocated_info, compound_info, reserved_info}

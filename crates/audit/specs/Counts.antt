@@ -1,5 +1,5 @@
 -- What the functions ask for, and the counts that they answer.
-use Rattle.common.specs.Kit.{ℕ, ◌+◌, ◌≤◌, ◌<◌, ◌≡◌, Bool, List, length, get_or, set}
+use Rattle.std.specs.Prelude.{ℕ, ◌+◌, ◌≤◌, ◌<◌, ◌≡◌, Bool, List, length, get_or, set}
 use Rattle.region.specs.Layout.{Limits}
 use Rattle.region.specs.Pages.{blocks, frees}
 use Rattle.region.specs.State.{room}

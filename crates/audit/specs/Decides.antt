@@ -1,5 +1,5 @@
 -- When a test decides a question.
-use Rattle.common.specs.Kit.{◌≡◌, Bool, true}
+use Rattle.std.specs.Prelude.{◌≡◌, Bool, true}
 
 -- b is the answer to P, both ways
 pub record Decides (b : Bool) (P : Type 0) : Type 0 where

@@ -1,5 +1,5 @@
 -- What the walk from block to block asks at each block, what it answers, and which lines that decides.
-use Rattle.common.specs.Kit.{ℕ, ◌+◌, ◌%◌, ◌^◌, ◌≤◌, ◌<◌, ◌≡◌, Bool, true, cond, not, ◌&&◌, List, [], ◌∷◌, eqb, ltb, length, get_or, set}
+use Rattle.std.specs.Prelude.{ℕ, ◌+◌, ◌%◌, ◌^◌, ◌≤◌, ◌<◌, ◌≡◌, Bool, true, cond, not, ◌&&◌, List, [], ◌∷◌, eqb, ltb, length, get_or, set}
 use Rattle.words.specs.Word.{no_page}
 use Rattle.pages.specs.Said.{said, next_in}
 use Rattle.region.specs.State.{room}

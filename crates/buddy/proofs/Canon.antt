@@ -1,6 +1,6 @@
 -- The free blocks of a sound heap are fixed by which managed pages are free: the block of a free page is the largest run around it that is
 -- free all over.
-use Rattle.common.specs.Kit.{ℕ, ◌≤◌, ◌≡◌, sym, ◌∙◌, ◌↔◌, Bool, List-as-Memᴰ, T, arith}
+use Rattle.common.specs.Kit.{ℕ, ◌≤◌, ◌≡◌, sym, ◌∙◌, ◌↔◌, Bool, Memᴰ, T, arith}
 use Rattle.buddy.specs.Runs.{cell}
 use Rattle.buddy.specs.Heap.{free, Tag, Tiled, NoBuddies, Heap, SoundHeap}
 use Rattle.buddy.proofs.RunLaws.{cell-coarse}
@@ -33,7 +33,7 @@ module _ (M : ℕ → Bool) where
         tag-path (h.at p) (omega (arith, a, b)) (e ∙ sym x)
 
     -- so each list holds the same blocks, perhaps in another order
-    pub canon-lists : (o p : ℕ) → o ≤ 5 → List-as-Memᴰ p (h.list o) → List-as-Memᴰ p (g.list o)
+    pub canon-lists : (o p : ℕ) → o ≤ 5 → Memᴰ p (h.list o) → Memᴰ p (g.list o)
     canon-lists o p l x =
         let f = (s.core.listed o l).sound p x in
         (r.core.listed o l).full p (record { managed = f.managed; is = sym (canon p f.managed (kind-of f.is)) ∙ f.is; head = f.head })

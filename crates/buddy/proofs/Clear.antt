@@ -1,6 +1,6 @@
 -- Runs that are free all over. In a sound heap such a run holds a page of a free block at least as large, since two free halves of one order
 -- would be buddies; so with the lists of its order and above empty there is none.
-use Rattle.common.specs.Kit.{ℕ, zero, suc, ◌+◌, ◌*◌, ◌≤◌, ◌≡◌, refl, sym, ◌∙◌, by_cases, Bool, [], List-as-Memᴰ, List·Memᴰ·not-nil, T, dec_le, arith}
+use Rattle.common.specs.Kit.{ℕ, zero, suc, ◌+◌, ◌*◌, ◌≤◌, ◌≡◌, refl, sym, ◌∙◌, by_cases, Bool, [], Memᴰ, mem-not_nil, T, dec_le, arith}
 use Rattle.buddy.specs.Runs.{cell, start}
 use Rattle.buddy.specs.Heap.{Kind, free, used, slab, file, Tag, Fits, Tiled, FreeHead, NoBuddies, Heap, SoundHeap}
 use Rattle.buddy.proofs.RunLaws.{cell-zero, cell-low, cell-high, cell-start, head-start}
@@ -66,7 +66,7 @@ module _ (M : ℕ → Bool) (at : ℕ → Tag) where
 
 pub none_free : (M : ℕ → Bool) (n : ℕ) (h : Heap) → SoundHeap M n h → (o : ℕ) → o ≤ 5 → ((j : ℕ) → o ≤ j → j ≤ 5 → h.list j ≡ [])
     → (c : ℕ) → AllFree M h.at o c → ⊥
-none_free M n h s o valid none c f = List·Memᴰ·not-nil (rw (none _ l.large top) at member)
+none_free M n h s o valid none c f = mem-not_nil (rw (none _ l.large top) at member)
   where
     l : Large M h.at o c
     l = free-large M h.at s.apart o c valid f
@@ -80,5 +80,5 @@ none_free M n h s o valid none c f = List·Memᴰ·not-nil (rw (none _ l.large t
     top : (h.at l.page).order ≤ 5
     top = order_small M h.at s.core.tiled l.page m
 
-    member : List-as-Memᴰ (start (h.at l.page).order l.page) (h.list (h.at l.page).order)
+    member : Memᴰ (start (h.at l.page).order l.page) (h.list (h.at l.page).order)
     member = (s.core.listed _ top).full _ (free-head M h.at s.core.tiled l.page m is)

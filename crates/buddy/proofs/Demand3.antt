@@ -1,6 +1,6 @@
 -- The theorems: from a set-up on, at every moment of every history, demand 3 holds, returns are what they should be and the heap is sound.
 -- All follow from the invariant of histories.
-use Rattle.common.specs.Kit.{ℕ, suc, ◌≤◌, ◌<◌, ◌≡◌, refl, sym, ◌∙◌, ◌≢◌, inl, inr, by_cases, Bool, List, [], ◌∷◌, List·Memᴰ·not-nil, T, arith}
+use Rattle.common.specs.Kit.{ℕ, suc, ◌≤◌, ◌<◌, ◌≡◌, refl, sym, ◌∙◌, ◌≢◌, inl, inr, by_cases, Bool, List, [], ◌∷◌, mem-not_nil, T, arith}
 use Rattle.buddy.specs.Runs.{cell, first, start, Head, buddy}
 use Rattle.buddy.specs.Heap.{Kind, free, used, slab, file, Tag, Block, SoundHeap, Clean}
 use Rattle.buddy.specs.Rules.{set_up, span}
@@ -168,7 +168,7 @@ module _ {M : ℕ → Bool} {n : ℕ} {m : Moment} (bound : (p : ℕ) → T (M p
   kept-clear x p e = let r = paged bound m.heap kept.sound x p e in rw (asks-order r.asks) (r.head, free-clear _ _ r.granted.was)
 
   kept-all-back : ((o : ℕ) → still_out m.log o ≡ []) → (p : ℕ) → T (M p) → (at p).kind ≡ free
-  kept-all-back none p t = by_cases (free? (at p).kind) (λ e. e) (λ e. absurd (List·Memᴰ·not-nil (rw (none (at p).order) at (busy-out p t e))))
+  kept-all-back none p t = by_cases (free? (at p).kind) (λ e. e) (λ e. absurd (mem-not_nil (rw (none (at p).order) at (busy-out p t e))))
 
 -- From here on: every history from a set-up on, the pages from a up to e being managed.
 pub bound : (a e p : ℕ) → T (span a e p) → p < e

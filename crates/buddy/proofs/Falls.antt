@@ -1,5 +1,5 @@
 -- A new run is added and freed: its block goes ahead of its list, so the lists still fall if the run lies above the blocks there.
-use Rattle.common.specs.Kit.{ℕ, ◌-◌, ◌≤◌, ◌<◌, ◌≡◌, refl, sym, ◌∙◌, by_cases, Bool, List-as-Memᴰ, T, ℕ_discrete, dec_lt, arith}
+use Rattle.common.specs.Kit.{ℕ, ◌-◌, ◌≤◌, ◌<◌, ◌≡◌, refl, sym, ◌∙◌, by_cases, Bool, Memᴰ, T, ℕ_discrete, dec_lt, arith}
 use Rattle.common.specs.Numbers.{Falling}
 use Rattle.common.proofs.Lists.{falling-remove}
 use Rattle.buddy.specs.Runs.{cell, first, start}
@@ -54,7 +54,7 @@ module _ {M : ℕ → Bool} {n o c : ℕ} {h : Heap} (s : SoundHeap M n h) (new 
       small = rw is at block.fits
 
       -- a block on list j is below p, and is not the run of order j around p, for p was not managed
-      lower : (q : ℕ) → List-as-Memᴰ q (h.list j) → q < start j p
+      lower : (q : ℕ) → Memᴰ q (h.list j) → q < start j p
       lower q m =
           let f = (s.core.listed j small).sound q m in
           let l = above j q small f (rw is at block.inside) in

@@ -1,6 +1,6 @@
 -- Rule 4 keeps soundness, grants a run that was free all over and leaves every other block out as it was; it refuses exactly when there is no
 -- such run.
-use Rattle.common.specs.Kit.{ℕ, zero, suc, ◌+◌, ◌*◌, ◌≤◌, ◌<◌, ◌≡◌, refl, sym, ap, ◌∙◌, ◌≢◌, ◌↔◌, by_cases, Bool, List, ◌∷◌, List·Memᴰ·head, T, suc-add, ℕ_discrete, arith}
+use Rattle.common.specs.Kit.{ℕ, zero, suc, ◌+◌, ◌*◌, ◌≤◌, ◌<◌, ◌≡◌, refl, sym, ap, ◌∙◌, ◌≢◌, ◌↔◌, by_cases, Bool, List, ◌∷◌, mem-head, T, suc-add, ℕ_discrete, arith}
 use Rattle.buddy.specs.Runs.{cell, first, buddy}
 use Rattle.buddy.specs.Heap.{Kind, free, used, Tag, tag, FreeHead, Heap, SoundHeap}
 use Rattle.buddy.specs.Steps.{take, halve}
@@ -71,7 +71,7 @@ module _ {M : ℕ → Bool} {n : ℕ} {h : Heap} (s : SoundHeap M n h) where
   -- the head of list j is taken
   module _ (j p : ℕ) (ps : List ℕ) (valid : j ≤ 5) (e : h.list j ≡ p ∷ ps) where
     pub head-free : FreeHead M h.at j p
-    head-free = (s.core.listed j valid).sound p (rw e (List·Memᴰ·head refl))
+    head-free = (s.core.listed j valid).sound p (rw e (mem-head refl))
 
     pub head-block : FreeBlock M h.at j (cell j p)
     head-block = free-block j (cell j p) s.core.tiled (rw head-free.head head-free)

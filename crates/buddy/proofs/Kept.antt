@@ -1,6 +1,6 @@
 -- The invariant of histories, `Kept`: the blocks that are out on the heap are those that are still out by the log, each of them once, and each is
 -- of the kind that the log granted it as. Every call keeps it.
-use Rattle.common.specs.Kit.{ℕ, suc, ◌+◌, ◌≤◌, ◌<◌, ◌≡◌, refl, sym, ◌∙◌, ◌≢◌, ◌↔◌, ⊎_elim, by_cases, Bool, List, [], ◌∷◌, ◌++◌, List-as-Memᴰ, List·Memᴰ·head, List·Memᴰ·tail, List·Memᴰ·cases-cons, List·Memᴰ·not-nil, T, ℕ_discrete, arith, eq-eqb, ne_eqb}
+use Rattle.common.specs.Kit.{ℕ, suc, ◌+◌, ◌≤◌, ◌<◌, ◌≡◌, refl, sym, ◌∙◌, ◌≢◌, ◌↔◌, ⊎_elim, by_cases, Bool, List, [], ◌∷◌, ◌++◌, Memᴰ, mem-head, mem-tail, mem-cases, mem-not_nil, T, ℕ_discrete, arith, eq-eqb, ne_eqb}
 use Rattle.common.specs.Numbers.{Once}
 use Rattle.common.proofs.Lists.{mem-of-remove, not-removed, mem-remove, once-remove}
 use Rattle.buddy.specs.Runs.{cell, first}
@@ -86,18 +86,18 @@ module _ {M : ℕ → Bool} {n : ℕ} {m : Moment} {x : Request} {o : ℕ} {k : 
       let s : o ≡ j = sym (order-of (r.on q e)) ∙ f.order in
       (s, head-is o c q (rw s f.head) e)
 
-  grant-full : (j q : ℕ) → List-as-Memᴰ q (still_out es j) → List-as-Memᴰ q (still_out (took k o p ∷ es) j)
-  grant-full j q x = by_cases (ℕ_discrete o j) (λ e. rw (took-here k o p es j e) (List·Memᴰ·tail x)) (λ e. rw (took-other k o p es j e) x)
+  grant-full : (j q : ℕ) → Memᴰ q (still_out es j) → Memᴰ q (still_out (took k o p ∷ es) j)
+  grant-full j q x = by_cases (ℕ_discrete o j) (λ e. rw (took-here k o p es j e) (mem-tail x)) (λ e. rw (took-other k o p es j e) x)
 
   grant-kept : Kept M n (record { heap = g; log = took k o p ∷ es })
   grant-kept = record {
     sound = r.sound;
     real = λ j q x. by_cases (ℕ_discrete o j)
         (λ e. ⊎_elim (λ (y : q ≡ p). rw (y, ← e) (granted-head asks r)) (λ y. new j q (kept.real j q y))
-        (List·Memᴰ·cases-cons (rw (took-here k o p es j e) at x)))
+        (mem-cases (rw (took-here k o p es j e) at x)))
         (λ e. new j q (kept.real j q (rw (took-other k o p es j e) at x)));
     full = λ j q f. by_cases (ℕ_discrete (cell o q) c)
-        (λ e. rw (took-here k o p es j (only j q f e).0) (List·Memᴰ·head (only j q f e).1))
+        (λ e. rw (took-here k o p es j (only j q f e).0) (mem-head (only j q f e).1))
         (λ e. grant-full j q (kept.full j q (old j q f e)));
     once = λ j. by_cases (ℕ_discrete o j)
         (λ e. rw (took-here k o p es j e) ((λ x. (kept.real j p x).busy (r.was p (cell-first o c)).1), kept.once j))
@@ -210,7 +210,7 @@ module _ {M : ℕ → Bool} {n : ℕ} (bound : (p : ℕ) → T (M p) → p < n) 
   unfolding after still_out
   after_kept h s all [] = record {
     sound = s;
-    real = λ o p x. absurd (List·Memᴰ·not-nil x);
+    real = λ o p x. absurd (mem-not_nil x);
     full = λ o p f. absurd (f.busy (all p f.managed));
     once = λ o. tt;
     kinds = λ o p f. absurd (f.busy (all p f.managed));

@@ -1,5 +1,5 @@
 -- Rule 7: what set-up leaves is sound and clean; its managed pages are those from a up to e, all of them are free, and every list falls.
-use Rattle.common.specs.Kit.{ℕ, zero, suc, ◌+◌, ◌-◌, ◌*◌, ◌/◌, ◌≤◌, ◌<◌, ◌≡◌, refl, sym, ◌∙◌, fun_ext, by_cases, Bool, ◌||◌, List·Memᴰ·not-nil, T, le_refl, ℕ_discrete, dec_lt, arith, eq-eqb, ne_eqb, lt-ltb, le-ltb}
+use Rattle.common.specs.Kit.{ℕ, zero, suc, ◌+◌, ◌-◌, ◌*◌, ◌/◌, ◌≤◌, ◌<◌, ◌≡◌, refl, sym, ◌∙◌, fun_ext, by_cases, Bool, ◌||◌, mem-not_nil, T, le_refl, ℕ_discrete, dec_lt, arith, eq-eqb, ne_eqb, lt-ltb, le-ltb}
 use mathlib.Core.Bool.{or-false, or-true, or_comm}
 use Rattle.common.specs.Numbers.{Falling}
 use Rattle.common.proofs.Tests.{T_true}
@@ -32,7 +32,7 @@ empty-ready n = record {
   sound = record {
     core = record {
       tiled = λ p t. absurd t;
-      listed = λ o l. record { sound = λ p x. absurd (List·Memᴰ·not-nil x); full = λ p f. absurd f.managed; once = tt };
+      listed = λ o l. record { sound = λ p x. absurd (mem-not_nil x); full = λ p f. absurd f.managed; once = tt };
       counted = λ o l. sym (no-count _ n (λ p. refl));
     };
     apart = λ o p q l t _ _ _ _. absurd t;

@@ -1,5 +1,5 @@
 -- What `SetUp` says of a state fixes it: all managed pages are free, so the blocks are the largest runs, and the lists fall.
-use Rattle.common.specs.Kit.{ℕ, ◌≤◌, ◌≡◌, sym, ap, ◌∙◌, fun_ext, ◌↔◌, by_cases, List-as-Memᴰ, T, dec_le, arith}
+use Rattle.common.specs.Kit.{ℕ, ◌≤◌, ◌≡◌, sym, ap, ◌∙◌, fun_ext, ◌↔◌, by_cases, Memᴰ, T, dec_le, arith}
 use Rattle.common.specs.Numbers.{count}
 use Rattle.common.proofs.Tests.{by-test}
 use Rattle.common.proofs.Lists.{falling-one}
@@ -13,7 +13,7 @@ module _ {a e : ℕ} where
   free-alike : {s t : State} → SetUp a e s → SetUp a e t → (q : ℕ) → T (span a e q) → ((s.heap.at q).kind ≡ free) ↔ ((t.heap.at q).kind ≡ free)
   free-alike x y q m = (λ _. y.all-free q m, λ _. x.all-free q m)
 
-  listed-alike : {s t : State} → SetUp a e s → SetUp a e t → (o p : ℕ) → o ≤ 5 → List-as-Memᴰ p (s.heap.list o) → List-as-Memᴰ p (t.heap.list o)
+  listed-alike : {s t : State} → SetUp a e s → SetUp a e t → (o p : ℕ) → o ≤ 5 → Memᴰ p (s.heap.list o) → Memᴰ p (t.heap.list o)
   listed-alike x y = canon-lists (span a e) x.sound y.sound (free-alike x y)
 
 -- what set-up leaves is fixed by this: every tag, every list in its order, every count. A result.

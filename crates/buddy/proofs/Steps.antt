@@ -1,5 +1,5 @@
 -- Every single step keeps the core of soundness: the tiling, the lists, the counts.
-use Rattle.common.specs.Kit.{ℕ, suc, ◌≤◌, ◌<◌, ◌≡◌, refl, sym, ◌∙◌, ◌≢◌, ⊎_elim, by_cases, Bool, List, ◌∷◌, List·Memᴰ·head, List·Memᴰ·tail, List·Memᴰ·cases-cons, T, le_refl, ℕ_discrete, arith}
+use Rattle.common.specs.Kit.{ℕ, suc, ◌≤◌, ◌<◌, ◌≡◌, refl, sym, ◌∙◌, ◌≢◌, ⊎_elim, by_cases, Bool, List, ◌∷◌, mem-head, mem-tail, mem-cases, T, le_refl, ℕ_discrete, arith}
 use Rattle.common.specs.Numbers.{remove}
 use Rattle.common.proofs.Tests.{by_two}
 use Rattle.common.proofs.Lists.{update_same, update_other, mem-of-remove, not-removed, mem-remove, once-remove}
@@ -55,10 +55,10 @@ module _ {M : ℕ → Bool} {n : ℕ} {h : Heap} {o c : ℕ} (k : Core M n h) wh
     sound = λ p x. ⊎_elim
         (λ e. rw e here)
         (λ y. let f = l.sound p y in head-new at o c v (λ _ _. refl) o p (λ e. no-head out o p e f) f)
-        (List·Memᴰ·cases-cons x);
+        (mem-cases x);
     full = λ p f. by_cases (ℕ_discrete (cell o p) c)
-        (λ e. List·Memᴰ·head (head-is o c p f.head e))
-        (λ e. List·Memᴰ·tail (l.full p (head-old at o c v (λ _ _. refl) o p e f)));
+        (λ e. mem-head (head-is o c p f.head e))
+        (λ e. mem-tail (l.full p (head-old at o c v (λ _ _. refl) o p e f)));
     once = (λ x. no-head out o (first o c) (cell-first o c) (l.sound _ x), l.once);
   }
     where

@@ -1,5 +1,6 @@
 -- What the customer asks for at every moment of every history (demand 3), and what a return is.
-use Rattle.common.specs.Kit.{ℕ, zero, suc, ◌+◌, ◌*◌, ◌^◌, ◌≤◌, ◌<◌, ◌≡◌, ◌≢◌, ◌↔◌, ◌⊎◌, Bool, List-as-Memᴰ, T}
+use Rattle.std.specs.Prelude.{ℕ, zero, suc, ◌+◌, ◌*◌, ◌^◌, ◌≤◌, ◌<◌, ◌≡◌, ◌≢◌, ◌↔◌, ◌⊎◌, Bool, T}
+use Rattle.common.specs.Kit.{Memᴰ}
 use Rattle.common.specs.Numbers.{Once, count}
 use Rattle.buddy.specs.Runs.{cell, first, Head, buddy}
 use Rattle.buddy.specs.Heap.{Kind, free, used, slab, file}
@@ -24,11 +25,11 @@ pub record InOne (Free Out : ℕ → ℕ → Type 0) (p : ℕ) : Type 0 where
 module _ (M : ℕ → Bool) (m : Moment) where
   -- the block of order o with first page s is free, on its list
   abbrev pub Free : ℕ → ℕ → Type 0
-  Free o s = (o ≤ 5) × List-as-Memᴰ s (m.heap.list o)
+  Free o s = (o ≤ 5) × Memᴰ s (m.heap.list o)
 
   -- it is still out by the log
   abbrev pub Out : ℕ → ℕ → Type 0
-  Out o s = List-as-Memᴰ s (still_out m.log o)
+  Out o s = Memᴰ s (still_out m.log o)
 
   abbrev pub Stands : ℕ → ℕ → Type 0
   Stands o s = Free o s ⊎ Out o s

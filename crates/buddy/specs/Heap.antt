@@ -1,6 +1,7 @@
 -- The heap, and when it is sound. The managed pages are a set M, given by a test, and not an interval: pages may be added later.
 -- Each page carries the tag of the block that covers it, so a block is a run whose pages have one tag of that order.
-use Rattle.common.specs.Kit.{ℕ, suc, ◌≤◌, ◌<◌, ◌≡◌, Bool, true, false, ◌&&◌, List, [], List-as-Memᴰ, T, eqb, leb}
+use Rattle.std.specs.Prelude.{ℕ, suc, ◌≤◌, ◌<◌, ◌≡◌, Bool, true, false, ◌&&◌, List, [], T, eqb, leb}
+use Rattle.common.specs.Kit.{Memᴰ}
 use Rattle.common.specs.Numbers.{Once, count}
 use Rattle.buddy.specs.Runs.{cell, start, Head}
 
@@ -58,8 +59,8 @@ module _ (M : ℕ → Bool) (at : ℕ → Tag) where
 
   -- "List o holds each free block of order o once" (S10)
   pub record Listed (o : ℕ) (l : List ℕ) : Type 0 where
-    pub sound : (p : ℕ) → List-as-Memᴰ p l → FreeHead o p
-    pub full : (p : ℕ) → FreeHead o p → List-as-Memᴰ p l
+    pub sound : (p : ℕ) → Memᴰ p l → FreeHead o p
+    pub full : (p : ℕ) → FreeHead o p → Memᴰ p l
     pub once : Once l
 
   -- "Below order 5 no two free blocks of one order are buddies" (S11): free pages of two halves of one run are in one half

@@ -1,5 +1,5 @@
 -- Histories: calls one after the other, each on the heap that the last one left, and what is written down of them.
-use Rattle.common.specs.Kit.{ℕ, ◌+◌, ◌-◌, Bool, cond, List, [], ◌∷◌, ◌++◌, eqb}
+use Rattle.std.specs.Prelude.{ℕ, ◌+◌, ◌-◌, Bool, cond, List, [], ◌∷◌, ◌++◌, eqb}
 use Rattle.common.specs.Numbers.{remove}
 use Rattle.buddy.specs.Runs.{first}
 use Rattle.buddy.specs.Request.{Request, for_block, for_file, for_slab, on, to_free, to_get, to_put}

@@ -1,5 +1,5 @@
 -- A request to the heap, as data. Its number is an order, an item size or a place; the place is a page here, and an address at the public calls.
-use Rattle.common.specs.Kit.{ℕ}
+use Rattle.std.specs.Prelude.{ℕ}
 
 -- what is asked for at a place
 pub data Use : Type 0 where

@@ -1,6 +1,6 @@
 -- The rules over the single steps: allocate (C40, C41), free (C50, C51), file and slab pages (C60 to C63), set-up (C70, C71). Each is a total
 -- function.
-use Rattle.common.specs.Kit.{ℕ, zero, suc, ◌+◌, ◌-◌, ◌*◌, ◌/◌, Bool, true, false, cond, ◌&&◌, [], ◌∷◌, eqb, leb, ltb}
+use Rattle.std.specs.Prelude.{ℕ, zero, suc, ◌+◌, ◌-◌, ◌*◌, ◌/◌, Bool, true, false, cond, ◌&&◌, [], ◌∷◌, eqb, leb, ltb}
 use Rattle.buddy.specs.Runs.{cell, first, start, buddy}
 use Rattle.buddy.specs.Heap.{Kind, used, slab, file, tag, is_free, Heap}
 use Rattle.buddy.specs.Steps.{push, take, split, merge, label, with_run, add}

@@ -1,6 +1,6 @@
 -- Aligned runs of pages. "A block of order o has 2^o pages and starts at a multiple of 2^o" (S9): a block lies on a run.
 -- The runs of order o are numbered from 0, so a run is named by its order and its number.
-use Rattle.common.specs.Kit.{ℕ, ◌+◌, ◌-◌, ◌*◌, ◌/◌, ◌%◌, ◌^◌, ◌≡◌, cond, eqb}
+use Rattle.std.specs.Prelude.{ℕ, ◌+◌, ◌-◌, ◌*◌, ◌/◌, ◌%◌, ◌^◌, ◌≡◌, cond, eqb}
 
 -- the number of the run of order o that holds page p
 unfoldable pub cell : ℕ → ℕ → ℕ

@@ -1,6 +1,6 @@
 -- The single steps on a heap, each of one order: put on a list, take off, split, merge, label, add. A block is named by its order and
 -- the number of its run. A block that is off the lists is out, also for as long as a rule has it in hand.
-use Rattle.common.specs.Kit.{ℕ, suc, ◌+◌, ◌-◌, ◌*◌, Bool, cond, ◌||◌, ◌∷◌, eqb}
+use Rattle.std.specs.Prelude.{ℕ, suc, ◌+◌, ◌-◌, ◌*◌, Bool, cond, ◌||◌, ◌∷◌, eqb}
 use Rattle.common.specs.Numbers.{update, remove}
 use Rattle.buddy.specs.Runs.{cell, first}
 use Rattle.buddy.specs.Heap.{Kind, free, used, Tag, tag, Heap}

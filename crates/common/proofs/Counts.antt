@@ -1,6 +1,6 @@
 -- Counts of the numbers that pass a test: equal tests, tests that differ at one number or at two, a test that none passes or one alone,
 -- a test in two parts, a test that the numbers of a list pass, one that implies another, and a run of numbers of which at most the first passes.
-use Rattle.common.specs.Kit.{ℕ, zero, suc, ◌+◌, ◌≤◌, ◌<◌, ◌≡◌, refl, sym, ◌∙◌, ◌≢◌, ◌↔◌, ⊎_elim, by_cases, Bool, true, false, false≢true, List, [], ◌∷◌, List-as-Memᴰ, List·Memᴰ·head, List·Memᴰ·tail, List·Memᴰ·cases-cons, List·Memᴰ·not-nil, T, length, ℕ_discrete, arith}
+use Rattle.common.specs.Kit.{ℕ, zero, suc, ◌+◌, ◌≤◌, ◌<◌, ◌≡◌, refl, sym, ◌∙◌, ◌≢◌, ◌↔◌, ⊎_elim, by_cases, Bool, true, false, false≢true, List, [], ◌∷◌, Memᴰ, mem-head, mem-tail, mem-cases, mem-not_nil, T, length, ℕ_discrete, arith}
 use Rattle.common.specs.Numbers.{update, Once, one, count}
 use Rattle.common.proofs.Tests.{by-test}
 use Rattle.common.proofs.Lists.{update_same, update_other}
@@ -54,18 +54,18 @@ count-parts f g h zero e = refl
 count-parts f g h (suc n) e = omega (arith, e n, count-parts f g h n e)
 
 -- a test that the numbers of a list pass, and no others: each stands in it once
-pub count-list : (l : List ℕ) (f : ℕ → Bool) (n : ℕ) → Once l → ((p : ℕ) → List-as-Memᴰ p l → p < n) → ((p : ℕ) → List-as-Memᴰ p l ↔ (f p ≡ true))
+pub count-list : (l : List ℕ) (f : ℕ → Bool) (n : ℕ) → Once l → ((p : ℕ) → Memᴰ p l → p < n) → ((p : ℕ) → Memᴰ p l ↔ (f p ≡ true))
     → count f n ≡ length l
-count-list [] f n u low is = no-count f n (λ p. by-test (f p) (λ e. absurd (List·Memᴰ·not-nil ((is p).1 e))) (λ e. e))
+count-list [] f n u low is = no-count f n (λ p. by-test (f p) (λ e. absurd (mem-not_nil ((is p).1 e))) (λ e. e))
 count-list (x ∷ l) f n u low is = omega (
   arith,
-  rw ((is x).0 (List·Memᴰ·head refl), update_same f x false x refl) at
-      (count_at f (update f x false) x n (low x (List·Memᴰ·head refl)) (λ p k. sym (update_other f x false p k))),
-  count-list l (update f x false) n u.1 (λ p m. low p (List·Memᴰ·tail m)) (λ p. (
-    λ m. update_other f x false p (λ e. u.0 (rw e at m)) ∙ (is p).0 (List·Memᴰ·tail m),
+  rw ((is x).0 (mem-head refl), update_same f x false x refl) at
+      (count_at f (update f x false) x n (low x (mem-head refl)) (λ p k. sym (update_other f x false p k))),
+  count-list l (update f x false) n u.1 (λ p m. low p (mem-tail m)) (λ p. (
+    λ m. update_other f x false p (λ e. u.0 (rw e at m)) ∙ (is p).0 (mem-tail m),
     λ t. by_cases (ℕ_discrete p x)
         (λ e. absurd (false≢true (sym (update_same f x false p e) ∙ t)))
-        (λ e. ⊎_elim (λ k. absurd (e k)) (λ k. k) (List·Memᴰ·cases-cons ((is p).1 (sym (update_other f x false p e) ∙ t)))),
+        (λ e. ⊎_elim (λ k. absurd (e k)) (λ k. k) (mem-cases ((is p).1 (sym (update_other f x false p e) ∙ t)))),
   )),
 )
 

@@ -1,5 +1,5 @@
 -- A function changed at one number, lists with one number taken out, and lists that fall.
-use Rattle.common.specs.Kit.{ℕ, ◌≤◌, ◌≡◌, refl, sym, ap, ◌∙◌, ◌≢◌, ◌↔◌, ⊎_elim, by_cases, List, [], ◌∷◌, List-as-Memᴰ, List·Memᴰ·head, List·Memᴰ·tail, List·Memᴰ·cases-cons, List·Memᴰ·not-nil, ℕ_discrete, arith, eq-eqb, ne_eqb}
+use Rattle.common.specs.Kit.{ℕ, ◌≤◌, ◌≡◌, refl, sym, ap, ◌∙◌, ◌≢◌, ◌↔◌, ⊎_elim, by_cases, List, [], ◌∷◌, Memᴰ, mem-head, mem-tail, mem-cases, mem-not_nil, ℕ_discrete, arith, eq-eqb, ne_eqb}
 use Rattle.common.specs.Numbers.{update, remove, Once, Falling}
 
 module _ {A : Type 0} (f : ℕ → A) (i : ℕ) (x : A) (j : ℕ) where
@@ -21,27 +21,27 @@ module _ (p : ℕ) where
   remove-other x xs e = rw (ne_eqb x p e)
 
   -- what is left was there
-  pub mem-of-remove : (q : ℕ) (l : List ℕ) → List-as-Memᴰ q (remove p l) → List-as-Memᴰ q l
+  pub mem-of-remove : (q : ℕ) (l : List ℕ) → Memᴰ q (remove p l) → Memᴰ q l
   unfolding remove
   mem-of-remove q [] m = m
   mem-of-remove q (x ∷ xs) m = by_cases (ℕ_discrete x p)
-      (λ e. List·Memᴰ·tail (rw (remove-same x xs e) at m))
-      (λ e. ⊎_elim (λ k. List·Memᴰ·head k) (λ k. List·Memᴰ·tail (mem-of-remove q xs k)) (List·Memᴰ·cases-cons (rw (remove-other x xs e) at m)))
+      (λ e. mem-tail (rw (remove-same x xs e) at m))
+      (λ e. ⊎_elim (λ k. mem-head k) (λ k. mem-tail (mem-of-remove q xs k)) (mem-cases (rw (remove-other x xs e) at m)))
 
   -- and is not p
-  pub not-removed : (l : List ℕ) → Once l → List-as-Memᴰ p (remove p l) → ⊥
+  pub not-removed : (l : List ℕ) → Once l → Memᴰ p (remove p l) → ⊥
   unfolding remove
-  not-removed [] u m = List·Memᴰ·not-nil m
+  not-removed [] u m = mem-not_nil m
   not-removed (x ∷ xs) u m = by_cases (ℕ_discrete x p)
       (λ e. u.0 (rw e (rw (remove-same x xs e) at m)))
-      (λ e. ⊎_elim (λ k. e (sym k)) (λ k. not-removed xs u.1 k) (List·Memᴰ·cases-cons (rw (remove-other x xs e) at m)))
+      (λ e. ⊎_elim (λ k. e (sym k)) (λ k. not-removed xs u.1 k) (mem-cases (rw (remove-other x xs e) at m)))
 
   -- all others are left
-  pub mem-remove : (q : ℕ) (l : List ℕ) → q ≢ p → List-as-Memᴰ q l → List-as-Memᴰ q (remove p l)
-  mem-remove q [] n m = absurd (List·Memᴰ·not-nil m)
+  pub mem-remove : (q : ℕ) (l : List ℕ) → q ≢ p → Memᴰ q l → Memᴰ q (remove p l)
+  mem-remove q [] n m = absurd (mem-not_nil m)
   mem-remove q (x ∷ xs) n m = by_cases (ℕ_discrete x p)
-      (λ e. rw (remove-same x xs e) (⊎_elim (λ k. absurd (n (k ∙ e))) (λ k. k) (List·Memᴰ·cases-cons m)))
-      (λ e. rw (remove-other x xs e) (⊎_elim (λ k. List·Memᴰ·head k) (λ k. List·Memᴰ·tail (mem-remove q xs n k)) (List·Memᴰ·cases-cons m)))
+      (λ e. rw (remove-same x xs e) (⊎_elim (λ k. absurd (n (k ∙ e))) (λ k. k) (mem-cases m)))
+      (λ e. rw (remove-other x xs e) (⊎_elim (λ k. mem-head k) (λ k. mem-tail (mem-remove q xs n k)) (mem-cases m)))
 
   pub once-remove : (l : List ℕ) → Once l → Once (remove p l)
   unfolding remove
@@ -58,20 +58,20 @@ module _ (p : ℕ) where
       (λ e. rw (remove-other x xs e) (λ y m. f.0 y (mem-of-remove y xs m), falling-remove xs f.1))
 
 -- the head is the highest
-head-top : (x : ℕ) (xs : List ℕ) → Falling (x ∷ xs) → (q : ℕ) → List-as-Memᴰ q (x ∷ xs) → q ≤ x
-head-top x xs f q m = ⊎_elim (λ e. omega arith) (λ k. omega (arith, f.0 q k)) (List·Memᴰ·cases-cons m)
+head-top : (x : ℕ) (xs : List ℕ) → Falling (x ∷ xs) → (q : ℕ) → Memᴰ q (x ∷ xs) → q ≤ x
+head-top x xs f q m = ⊎_elim (λ e. omega arith) (λ k. omega (arith, f.0 q k)) (mem-cases m)
 
 -- behind one head, what is in both lists is in both rests
-tail-in : (x : ℕ) (xs ys : List ℕ) → Falling (x ∷ xs) → (q : ℕ) → (List-as-Memᴰ q (x ∷ xs) → List-as-Memᴰ q (x ∷ ys)) → List-as-Memᴰ q xs → List-as-Memᴰ q ys
-tail-in x xs ys f q to m = ⊎_elim (λ e. absurd (omega (arith, f.0 q m))) (λ k. k) (List·Memᴰ·cases-cons (to (List·Memᴰ·tail m)))
+tail-in : (x : ℕ) (xs ys : List ℕ) → Falling (x ∷ xs) → (q : ℕ) → (Memᴰ q (x ∷ xs) → Memᴰ q (x ∷ ys)) → Memᴰ q xs → Memᴰ q ys
+tail-in x xs ys f q to m = ⊎_elim (λ e. absurd (omega (arith, f.0 q m))) (λ k. k) (mem-cases (to (mem-tail m)))
 
 -- two falling lists with the same numbers are one
-pub falling-one : (xs ys : List ℕ) → Falling xs → Falling ys → ((q : ℕ) → List-as-Memᴰ q xs ↔ List-as-Memᴰ q ys) → xs ≡ ys
+pub falling-one : (xs ys : List ℕ) → Falling xs → Falling ys → ((q : ℕ) → Memᴰ q xs ↔ Memᴰ q ys) → xs ≡ ys
 falling-one [] [] f g same = refl
-falling-one [] (y ∷ ys) f g same = absurd (List·Memᴰ·not-nil ((same y).1 (List·Memᴰ·head refl)))
-falling-one (x ∷ xs) [] f g same = absurd (List·Memᴰ·not-nil ((same x).0 (List·Memᴰ·head refl)))
+falling-one [] (y ∷ ys) f g same = absurd (mem-not_nil ((same y).1 (mem-head refl)))
+falling-one (x ∷ xs) [] f g same = absurd (mem-not_nil ((same x).0 (mem-head refl)))
 falling-one (x ∷ xs) (y ∷ ys) f g same = rw one (ap (λ l. y ∷ l) (falling-one xs ys f.1 g.1 (λ q.
     (tail-in y xs ys (rw one at f) q (rw one at (same q).0), tail-in y ys xs g q (rw one at (same q).1)))))
   where
     one : x ≡ y
-    one = omega (arith, head-top y ys g x ((same x).0 (List·Memᴰ·head refl)), head-top x xs f y ((same y).1 (List·Memᴰ·head refl)))
+    one = omega (arith, head-top y ys g x ((same x).0 (mem-head refl)), head-top x xs f y ((same y).1 (mem-head refl)))

@@ -1,5 +1,6 @@
 -- Lists of numbers, functions on numbers and counts: general notions that the kit's library does not have.
-use Rattle.common.specs.Kit.{ℕ, zero, suc, ◌+◌, ◌<◌, Bool, cond, List, [], ◌∷◌, List-as-Memᴰ, eqb}
+use Rattle.std.specs.Prelude.{ℕ, zero, suc, ◌+◌, ◌<◌, Bool, cond, List, [], ◌∷◌, eqb}
+use Rattle.common.specs.Kit.{Memᴰ}
 
 -- f, but with the value x at i
 unfoldable pub update : {A : Type 0} → (ℕ → A) → ℕ → A → ℕ → A
@@ -13,12 +14,12 @@ remove p (x ∷ xs) = cond (eqb x p) xs (x ∷ remove p xs)
 -- no number stands twice in the list
 abbrev pub Once : List ℕ → Type 0
 Once [] = Unit {0}
-Once (x ∷ xs) = (List-as-Memᴰ x xs → ⊥) × Once xs
+Once (x ∷ xs) = (Memᴰ x xs → ⊥) × Once xs
 
 -- the numbers fall: each is above all that follow it
 abbrev pub Falling : List ℕ → Type 0
 Falling [] = Unit {0}
-Falling (x ∷ xs) = ((y : ℕ) → List-as-Memᴰ y xs → y < x) × Falling xs
+Falling (x ∷ xs) = ((y : ℕ) → Memᴰ y xs → y < x) × Falling xs
 
 -- 1 where a test holds, else 0
 abbrev pub one : Bool → ℕ

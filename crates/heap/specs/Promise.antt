@@ -1,6 +1,6 @@
 -- What each public call promises, for all input: its answer, the record and every word. Each promise is one total function that computes:
 -- soundness first, then the table's checks in the table's order, then the model's rule.
-use Rattle.common.specs.Kit.{ℕ, ◌+◌, ◌-◌, ◌*◌, ◌%◌, ◌^◌, cond, ◌&&◌, List, [], eqb, leb, length, replicate}
+use Rattle.std.specs.Prelude.{ℕ, ◌+◌, ◌-◌, ◌*◌, ◌%◌, ◌^◌, cond, ◌&&◌, List, [], eqb, leb, length, replicate}
 use Rattle.words.specs.declared.place.VirtAddr.{VirtAddr}
 use Rattle.buddy.specs.Rules.{set_up}
 use Rattle.buddy.specs.Request.{Request}

@@ -1,5 +1,5 @@
 -- How many blocks and pages are free, and how many are out: a free block stands on its list once, and a block out in the log once.
-use Rattle.common.specs.Kit.{ℕ, zero, suc, ◌+◌, ◌≤◌, ◌<◌, ◌≡◌, refl, sym, ◌∙◌, ◌≢◌, ◌↔◌, Bool, true, false, not, ◌&&◌, List, [], ◌∷◌, List-as-Memᴰ, List·Memᴰ·head, T, eqb, eqb→eq, length, arith}
+use Rattle.common.specs.Kit.{ℕ, zero, suc, ◌+◌, ◌≤◌, ◌<◌, ◌≡◌, refl, sym, ◌∙◌, ◌≢◌, ◌↔◌, Bool, true, false, not, ◌&&◌, List, [], ◌∷◌, Memᴰ, mem-head, T, eqb, eqb→eq, length, arith}
 use Rattle.common.specs.Numbers.{remove, Once, one, count}
 use Rattle.common.proofs.Tests.{by-test, T_and, and_T}
 use Rattle.common.proofs.Lists.{mem-of-remove, not-removed, mem-remove, once-remove}
@@ -17,11 +17,11 @@ use Rattle.buddy.proofs.Kept.{Kept}
 use Rattle.buddy.proofs.Demand3.{clear-free, free-clear}
 
 -- a list that holds once each number below n that passes a test
-once-count : (f : ℕ → Bool) (n : ℕ) (l : List ℕ) → Once l → ((p : ℕ) → List-as-Memᴰ p l → T (f p) × (p < n))
-    → ((p : ℕ) → p < n → T (f p) → List-as-Memᴰ p l) → length l ≡ count f n
+once-count : (f : ℕ → Bool) (n : ℕ) (l : List ℕ) → Once l → ((p : ℕ) → Memᴰ p l → T (f p) × (p < n))
+    → ((p : ℕ) → p < n → T (f p) → Memᴰ p l) → length l ≡ count f n
 unfolding count
 once-count f zero [] u is full = refl
-once-count f zero (x ∷ l) u is full = absurd (omega (arith, (is x (List·Memᴰ·head refl)).1))
+once-count f zero (x ∷ l) u is full = absurd (omega (arith, (is x (mem-head refl)).1))
 once-count f (suc n) l u is full = by-test (f n)
     (λ e. rw e (omega (
       arith,

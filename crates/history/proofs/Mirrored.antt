@@ -1,5 +1,5 @@
 -- A moment and the moment of the model that mirrors it: what is managed, still out or clear by the one is so by the other.
-use Rattle.common.specs.Kit.{ℕ, ◌≡◌, sym, subst, inl, inr, List, map, List-as-Memᴰ, arith}
+use Rattle.common.specs.Kit.{ℕ, ◌≡◌, sym, subst, inl, inr, List, map, Memᴰ, arith}
 use mathlib.Core.List.Memᴰ
 use Rattle.buddy.specs.Request.{Request}
 use Rattle.buddy.specs.History as Model
@@ -49,7 +49,7 @@ module _ {m : Moment} {xs : List Request} (k : Mirror m xs) where
   pub as-mirrored : (p : ℕ) → granted_as m.log (address_of m p) ≡ granted_as es p
   as-mirrored p = rw k.log (renamed-as (address_of m) (one-page m) es p)
 
-  pub out-page : (o a : ℕ) → List-as-Memᴰ a (still_out m.log o) → (p : ℕ) × Of.Out (managed r m.words) mirrored o p × (a ≡ address_of m p)
+  pub out-page : (o a : ℕ) → Memᴰ a (still_out m.log o) → (p : ℕ) × Of.Out (managed r m.words) mirrored o p × (a ≡ address_of m p)
   out-page o a x = let y = Memᴰ.of_map (address_of m) (still_out es o) (rw (out-mirrored o) at x) in (y.0, y.1, sym y.2)
 
   pub out-to : (o p : ℕ) → Out m o p → Of.Out (managed r m.words) mirrored o p

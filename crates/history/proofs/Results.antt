@@ -1,6 +1,6 @@
 -- More that holds at every moment of every history: no page is granted that is still out, the counts are those of free blocks and of blocks
 -- still out, and when all is back all is free.
-use Rattle.common.specs.Kit.{ℕ, ◌+◌, ◌≤◌, ◌<◌, ◌≡◌, refl, sym, ap, ◌∙◌, subst, ◌↔◌, ⊎_elim, Bool, List, [], ◌∷◌, List·Memᴰ·not-nil, T, length, get_or, length-map, arith}
+use Rattle.common.specs.Kit.{ℕ, ◌+◌, ◌≤◌, ◌<◌, ◌≡◌, refl, sym, ap, ◌∙◌, subst, ◌↔◌, ⊎_elim, Bool, List, [], ◌∷◌, mem-not_nil, T, length, get_or, length-map, arith}
 use Rattle.common.specs.Numbers.{count}
 use Rattle.common.proofs.Tests.{bool_iff}
 use Rattle.common.proofs.Counts.{count_same}
@@ -108,4 +108,4 @@ module _ (start : VirtAddr) (n a : ℕ) (ws : List ℕ) (done : Succeeded start 
       → (o : ℕ) × (s : ℕ) × Free m o s × (cell o p ≡ cell o s)
   all_back none p t =
       let x = (demand3 start n a ws done cs).tile p t in
-      ⊎_elim (λ f. (x.order, x.head, f, x.holds)) (λ y. absurd (List·Memᴰ·not-nil (rw (none x.order) at y))) x.stands
+      ⊎_elim (λ f. (x.order, x.head, f, x.holds)) (λ y. absurd (mem-not_nil (rw (none x.order) at y))) x.stands

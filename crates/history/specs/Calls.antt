@@ -1,6 +1,6 @@
 -- Histories of the public calls. A history starts from a set-up that succeeded, with no other after it; each later call is handed the record and the
 -- words that the last one left; what it answers and leaves is what its promise says, and nothing else is known of it (H1).
-use Rattle.common.specs.Kit.{ℕ, ◌≡◌, cond, List, [], ◌∷◌, ◌++◌, eqb}
+use Rattle.std.specs.Prelude.{ℕ, ◌≡◌, cond, List, [], ◌∷◌, ◌++◌, eqb}
 use Rattle.words.specs.declared.place.VirtAddr.{VirtAddr}
 use Rattle.buddy.specs.Request.{Request}
 use Rattle.buddy.specs.History.{Event, event}

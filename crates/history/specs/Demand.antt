@@ -1,5 +1,6 @@
 -- The customer's demand 3, of the public calls, at one moment of a history.
-use Rattle.common.specs.Kit.{ℕ, ◌+◌, ◌-◌, ◌*◌, ◌≤◌, ◌<◌, ◌≡◌, ◌≢◌, ◌↔◌, ◌⊎◌, [], ◌∷◌, List-as-Memᴰ, T, get_or}
+use Rattle.std.specs.Prelude.{ℕ, ◌+◌, ◌-◌, ◌*◌, ◌≤◌, ◌<◌, ◌≡◌, ◌≢◌, ◌↔◌, ◌⊎◌, [], ◌∷◌, T, get_or}
+use Rattle.common.specs.Kit.{Memᴰ}
 use Rattle.common.specs.Numbers.{Once, count}
 use Rattle.words.specs.declared.word.Decoded.TheVariants.{Info}
 use Rattle.buddy.specs.Runs.{cell, first, Head, buddy}
@@ -31,11 +32,11 @@ module _ (m : Moment) where
 
   -- the block of order o at page p stands on its list, as the record and the words have it
   abbrev pub Free : ℕ → ℕ → Type 0
-  Free o p = (o ≤ 5) × List-as-Memᴰ p ((heap_of m.region m.words).list o)
+  Free o p = (o ≤ 5) × Memᴰ p ((heap_of m.region m.words).list o)
 
   -- it is still out by the log: granted, and not returned (H3)
   abbrev pub Out : ℕ → ℕ → Type 0
-  Out o p = List-as-Memᴰ (address_of p) (still_out m.log o)
+  Out o p = Memᴰ (address_of p) (still_out m.log o)
 
   abbrev pub Stands : ℕ → ℕ → Type 0
   Stands o p = Free o p ⊎ Out o p
@@ -60,7 +61,7 @@ module _ (m : Moment) where
     pub once : (o : ℕ) → Once (still_out m.log o)
     pub aligned : (o p : ℕ) → Stands o p → Head o p
     pub inside : (o p q : ℕ) → Stands o p → cell o q ≡ cell o p → Managed q
-    pub placed : (o a : ℕ) → List-as-Memᴰ a (still_out m.log o) → (p : ℕ) × (a ≡ address_of p)
+    pub placed : (o a : ℕ) → Memᴰ a (still_out m.log o) → (p : ℕ) × (a ≡ address_of p)
     -- "the block totals add up to the managed pages, each count times its block's size" (H5)
     pub totals : pages_in (λ o. get_or m.region.nr_pages o 0) 6 ≡ count (managed m.region m.words) (end_of m.region)
     -- "no two free buddies below order 5 stand side by side" (H6)
@@ -86,11 +87,11 @@ module _ (m : Moment) where
 
   -- a block is still out at address a
   abbrev pub OutAt : ℕ → Type 0
-  OutAt a = (o : ℕ) × List-as-Memᴰ a (still_out m.log o)
+  OutAt a = (o : ℕ) × Memᴰ a (still_out m.log o)
 
   -- a file page is, and was put as often as it was got
   abbrev pub LastAt : ℕ → Type 0
-  LastAt a = List-as-Memᴰ a (still_out m.log 0) × (granted_as m.log a ≡ file 1) × (puts m.log a ≡ gets m.log a)
+  LastAt a = Memᴰ a (still_out m.log 0) × (granted_as m.log a ≡ file 1) × (puts m.log a ≡ gets m.log a)
 
   -- what a return is: a free succeeds exactly at the address of a block still out, and a put answers 0 exactly on the last reference (H10)
   pub record Returns : Type 0 where

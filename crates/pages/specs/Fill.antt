@@ -1,5 +1,5 @@
 -- Writes over the words of a block.
-use Rattle.common.specs.Kit.{ℕ, zero, suc, ◌+◌, ◌-◌, ◌^◌, ◌≤◌, ◌<◌, List, length, set}
+use Rattle.std.specs.Prelude.{ℕ, zero, suc, ◌+◌, ◌-◌, ◌^◌, ◌≤◌, ◌<◌, List, length, set}
 use Rattle.words.specs.Word.{mem_of}
 use Rattle.pages.specs.Info.{free_info, compound_info}
 

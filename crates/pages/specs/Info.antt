@@ -1,5 +1,5 @@
 -- What a page is, by short names.
-use Rattle.common.specs.Kit.{ℕ}
+use Rattle.std.specs.Prelude.{ℕ}
 use Rattle.words.specs.declared.word.PageInfo.{PageInfo}
 use Rattle.words.specs.declared.word.PageInfo.TheVariants.{Free, Allocated, Slab, Compound, File, Reserved}
 

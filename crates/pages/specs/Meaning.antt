@@ -1,6 +1,6 @@
 -- What a word means for the blocks: it heads a block of a kind and order, it is a later page of a block of an order, or neither. This is the one
 -- table of the page types that the rules use: head order, free order, what may be freed, kind and layout are read off it (W15).
-use Rattle.common.specs.Kit.{ℕ, Bool, true, cond, leb}
+use Rattle.std.specs.Prelude.{ℕ, Bool, true, cond, leb}
 use Rattle.words.specs.declared.word.PageInfo.{PageInfo}
 use Rattle.words.specs.declared.word.PageInfo.TheVariants.{Free, Allocated, Slab, Compound, File, Reserved}
 use Rattle.words.specs.declared.word.Decoded.{Decoded}

@@ -1,5 +1,5 @@
 -- What the words say, page by page.
-use Rattle.common.specs.Kit.{ℕ, List, get_or}
+use Rattle.std.specs.Prelude.{ℕ, List, get_or}
 use Rattle.words.specs.Word.{decode_of, no_page}
 use Rattle.words.specs.declared.word.PageInfo.{PageInfo}
 use Rattle.words.specs.declared.word.PageInfo.TheVariants.{Free, Allocated, Slab, Compound, File, Reserved}

@@ -1,6 +1,6 @@
 -- What a line says (README.md, "The shell"): its words are parted by white space; the first is the name of a request, the others are numbers, hex
 -- digits or a field's name, by the request.
-use Rattle.common.specs.Kit.{ℕ, suc, ◌+◌, ◌-◌, ◌*◌, ◌^◌, Bool, true, false, cond, ◌&&◌, ◌||◌, List, [], ◌∷◌, ◌++◌, map, eqb, leb, ltb, length, get_or, replicate}
+use Rattle.std.specs.Prelude.{ℕ, suc, ◌+◌, ◌-◌, ◌*◌, ◌^◌, Bool, true, false, cond, ◌&&◌, ◌||◌, List, [], ◌∷◌, ◌++◌, map, eqb, leb, ltb, length, get_or, replicate}
 use Rattle.std.specs.Bool.{beq}
 use Rattle.parse.specs.Names.{decode, poke, field}
 use Rattle.parse.specs.declared.input.Number.{Number}

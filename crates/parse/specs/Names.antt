@@ -1,6 +1,6 @@
 -- The names of requests and of the record's fields as numbers, as names.rt has them: the bytes of a name to the base 256, the first one highest.
 -- That each says what it is called here is a law (`names` in proofs/Cases.antt).
-use Rattle.common.specs.Kit.{ℕ}
+use Rattle.std.specs.Prelude.{ℕ}
 
 abbrev pub words : ℕ
 words = 0x776f726473

@@ -1,6 +1,6 @@
 -- The linked lists of free blocks: each is the walk along its next fields, and one that holds each free block once is as long as these are
 -- many.
-use Rattle.common.specs.Kit.{ℕ, ◌<◌, ◌≡◌, refl, sym, ⊎_elim, Bool, List, [], ◌∷◌, List-as-Memᴰ, List·Memᴰ·head, List·Memᴰ·tail, List·Memᴰ·cases-cons, List·Memᴰ·not-nil, T, length, arith, eq-eqb, eqb-true}
+use Rattle.common.specs.Kit.{ℕ, ◌<◌, ◌≡◌, refl, sym, ⊎_elim, Bool, List, [], ◌∷◌, Memᴰ, mem-head, mem-tail, mem-cases, mem-not_nil, T, length, arith, eq-eqb, eqb-true}
 use Rattle.common.specs.Numbers.{Once}
 use Rattle.common.proofs.Tests.{T_true, and-true}
 use Rattle.common.proofs.Counts.{count-list}
@@ -19,14 +19,14 @@ module _ (ws : List ℕ) (M : ℕ → Bool) (o : ℕ) where
   links-of head [] k = tt
   links-of head (x ∷ l) k = (head_of _ l k.2, links-of (next_in (said ws x)) l k.2)
 
-  free_of : (head : ℕ) (l : List ℕ) → Linked ws M o head l → (p : ℕ) → List-as-Memᴰ p l → FreeBlock ws M o p
-  free_of head [] k p m = absurd (List·Memᴰ·not-nil m)
-  free_of head (x ∷ l) k p m = ⊎_elim (λ d. rw d k.1) (free_of (next_in (said ws x)) l k.2 p) (List·Memᴰ·cases-cons m)
+  free_of : (head : ℕ) (l : List ℕ) → Linked ws M o head l → (p : ℕ) → Memᴰ p l → FreeBlock ws M o p
+  free_of head [] k p m = absurd (mem-not_nil m)
+  free_of head (x ∷ l) k p m = ⊎_elim (λ d. rw d k.1) (free_of (next_in (said ws x)) l k.2 p) (mem-cases m)
 
-  pub links-linked : (l : List ℕ) → Links (λ p. next_in (said ws p)) l → ((p : ℕ) → List-as-Memᴰ p l → FreeBlock ws M o p)
+  pub links-linked : (l : List ℕ) → Links (λ p. next_in (said ws p)) l → ((p : ℕ) → Memᴰ p l → FreeBlock ws M o p)
       → Linked ws M o (head_or l) l
   links-linked [] k f = refl
-  links-linked (x ∷ l) k f = (refl, f x (List·Memᴰ·head refl), rw k.0 (links-linked l k.1 (λ p m. f p (List·Memᴰ·tail m))))
+  links-linked (x ∷ l) k f = (refl, f x (mem-head refl), rw k.0 (links-linked l k.1 (λ p m. f p (mem-tail m))))
 
 module _ {ws : List ℕ} {M : ℕ → Bool} {o head : ℕ} (f : FreeList ws M o head) where
   pub linked-head : head ≡ head_or f.list
@@ -35,10 +35,10 @@ module _ {ws : List ℕ} {M : ℕ → Bool} {o head : ℕ} (f : FreeList ws M o 
   pub linked-links : Links (λ p. next_in (said ws p)) f.list
   linked-links = links-of ws M o head f.list f.linked
 
-  pub linked-free : (p : ℕ) → List-as-Memᴰ p f.list → FreeBlock ws M o p
+  pub linked-free : (p : ℕ) → Memᴰ p f.list → FreeBlock ws M o p
   linked-free = free_of ws M o head f.list f.linked
 
-  pub linked-full : (p : ℕ) → FreeBlock ws M o p → List-as-Memᴰ p f.list
+  pub linked-full : (p : ℕ) → FreeBlock ws M o p → Memᴰ p f.list
   linked-full p b = occurs-mem p f.list (omega (arith, f.once p b))
 
   pub linked-once : Once f.list

@@ -1,5 +1,5 @@
 -- Rule 4 on record and words is rule 4 on the heap: the list asked for is refilled, its head is granted, and its word is written last.
-use Rattle.common.specs.Kit.{ℕ, ◌≤◌, ◌≡◌, refl, sym, ◌∙◌, subst, ◌≢◌, Bool, [], List·Memᴰ·head, arith}
+use Rattle.common.specs.Kit.{ℕ, ◌≤◌, ◌≡◌, refl, sym, ◌∙◌, subst, ◌≢◌, Bool, [], mem-head, arith}
 use Rattle.words.specs.declared.word.PageInfo.{PageInfo}
 use Rattle.buddy.specs.Runs.{cell, first}
 use Rattle.buddy.specs.Heap.{Kind, free, used, Heap}
@@ -70,7 +70,7 @@ module _ {M : ℕ → Bool} {r : HeapMemoryRegion} {h : Heap} (f : Fits M r h) (
     c = cell o s.head
 
     head-page : first o c ≡ s.head
-    head-page = (list-free s.step.fits o s.head valid (rw s.is (List·Memᴰ·head refl))).head
+    head-page = (list-free s.step.fits o s.head valid (rw s.is (mem-head refl))).head
 
     grant-some : Given M r h o (take g o c) c
     unfolding grant_page grant

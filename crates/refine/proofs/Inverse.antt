@@ -1,6 +1,6 @@
 -- Sound records and words of the code's types, and heaps that fit the region and are sound, are one and the same thing: reading and writing
 -- undo each other. These are results.
-use Rattle.common.specs.Kit.{ℕ, ◌^◌, ◌≡◌, refl, sym, ap, ◌∙◌, subst, Bool, true, List, T, get_or, List·getD-eq-default, arith, le-ltb, ltb-true}
+use Rattle.common.specs.Kit.{ℕ, ◌^◌, ◌≡◌, refl, sym, ap, ◌∙◌, subst, Bool, true, List, T, get_or, get_or-eq_default, arith, le-ltb, ltb-true}
 use Rattle.common.proofs.Tests.{T_false}
 use Rattle.words.specs.Word.{in_table}
 use Rattle.words.specs.declared.word.Decoded.TheVariants.{Info}
@@ -37,7 +37,7 @@ unfolding heap_of
 read-clean r ws typed = record {
   tags = λ p m. rw (T_false (managed r ws p) m);
   lists = λ o l. rw (le-ltb o 6 l);
-  counts = λ o l. List·getD-eq-default r.nr_pages 0 (omega (arith, typed.nr));
+  counts = λ o l. get_or-eq_default r.nr_pages 0 (omega (arith, typed.nr));
 }
 
 -- WRITE: a heap that fits is written as record and words that show it, by words of 64 bits

@@ -1,5 +1,5 @@
 -- The pages on the lists of a heap that fits: where they lie, what their words say, and what the record becomes when one is taken out.
-use Rattle.common.specs.Kit.{ℕ, ◌-◌, ◌≤◌, ◌<◌, ◌≡◌, refl, ap, ◌∙◌, ◌≢◌, Bool, List-as-Memᴰ, length, arith}
+use Rattle.common.specs.Kit.{ℕ, ◌-◌, ◌≤◌, ◌<◌, ◌≡◌, refl, ap, ◌∙◌, ◌≢◌, Bool, Memᴰ, length, arith}
 use Rattle.common.specs.Numbers.{remove}
 use Rattle.common.proofs.Bounds.{length-remove}
 use Rattle.words.specs.Word.{no_page}
@@ -23,7 +23,7 @@ use Rattle.refine.proofs.Record.{frees-image, region-list}
 use Rattle.refine.proofs.Step.{Lent, cut_small, paint-fits}
 
 module _ {M : ℕ → Bool} {r : HeapMemoryRegion} {h : Heap} (f : Fits M r h) where
-  module _ (o p : ℕ) (valid : o ≤ 5) (on : List-as-Memᴰ p (h.list o)) where
+  module _ (o p : ℕ) (valid : o ≤ 5) (on : Memᴰ p (h.list o)) where
     pub list-free : FreeHead M h.at o p
     list-free = (f.core.listed o valid).sound p on
 
@@ -35,7 +35,7 @@ module _ {M : ℕ → Bool} {r : HeapMemoryRegion} {h : Heap} (f : Fits M r h) w
     pub free-small : o ≤ 5
     free-small = cut_small f (free-cut b)
 
-    pub free-listed : List-as-Memᴰ (first o c) (h.list o)
+    pub free-listed : Memᴰ (first o c) (h.list o)
     free-listed = (f.core.listed o free-small).full (first o c)
         (record { managed = b.managed _ (cell-first o c); is = b.is _ (cell-first o c); head = head_first o c })
 
@@ -56,5 +56,5 @@ module _ {M : ℕ → Bool} {r : HeapMemoryRegion} {h : Heap} (f : Fits M r h) w
     pub list-links : (o : ℕ) → o ≤ 5 → Links (λ p. next_in (said (words_of r h) p)) (h.list o)
     list-links o valid = links-list (image-says f lent) o (f.core.listed o valid)
 
-    pub list-some : (o p : ℕ) → o ≤ 5 → List-as-Memᴰ p (h.list o) → p ≢ no_page
+    pub list-some : (o p : ℕ) → o ≤ 5 → Memᴰ p (h.list o) → p ≢ no_page
     list-some o p valid on = omega (arith, list-below o p valid on, pages-small r.page_count lent.most)

@@ -2,7 +2,7 @@
 -- words, and the head of a list is the one page of it that follows no other. So damage to the other numbers alone is seen. The words do not name
 -- the start; and a boot page's word is that of a block out, so a record that counts one for the other is sound too (`cases` in `audit`). No audit
 -- can see these two. These are results.
-use Rattle.common.specs.Kit.{ℕ, ◌+◌, ◌-◌, ◌*◌, ◌%◌, ◌^◌, ◌≤◌, ◌<◌, ◌≡◌, refl, sym, ◌∙◌, subst, ◌≢◌, ⊎_elim, Bool, List, [], ◌∷◌, List-as-Memᴰ, List·Memᴰ·head, List·Memᴰ·tail, List·Memᴰ·cases-cons, List·Memᴰ·not-nil, T, get_or, arith}
+use Rattle.common.specs.Kit.{ℕ, ◌+◌, ◌-◌, ◌*◌, ◌%◌, ◌^◌, ◌≤◌, ◌<◌, ◌≡◌, refl, sym, ◌∙◌, subst, ◌≢◌, ⊎_elim, Bool, List, [], ◌∷◌, Memᴰ, mem-head, mem-tail, mem-cases, mem-not_nil, T, get_or, arith}
 use Rattle.common.specs.Numbers.{Once}
 use Rattle.words.specs.Word.{no_page}
 use Rattle.words.specs.declared.place.VirtAddr.{VirtAddr}
@@ -20,27 +20,27 @@ use Rattle.refine.proofs.OneImage.{region-path}
 
 module _ (f : ℕ → ℕ) where
   -- a page behind the head follows some page of the list
-  follows : (y : ℕ) (l : List ℕ) (x : ℕ) → Links f (y ∷ l) → List-as-Memᴰ x l → (z : ℕ) × List-as-Memᴰ z (y ∷ l) × (f z ≡ x)
-  follows y [] x k m = absurd (List·Memᴰ·not-nil m)
+  follows : (y : ℕ) (l : List ℕ) (x : ℕ) → Links f (y ∷ l) → Memᴰ x l → (z : ℕ) × Memᴰ z (y ∷ l) × (f z ≡ x)
+  follows y [] x k m = absurd (mem-not_nil m)
   follows y (u ∷ l) x k m = ⊎_elim
-      (λ e. (y, List·Memᴰ·head refl, k.0 ∙ sym e))
-      (λ j. let p = follows u l x k.1 j in (p.0, List·Memᴰ·tail p.1, p.2))
-      (List·Memᴰ·cases-cons m)
+      (λ e. (y, mem-head refl, k.0 ∙ sym e))
+      (λ j. let p = follows u l x k.1 j in (p.0, mem-tail p.1, p.2))
+      (mem-cases m)
 
   -- two lists of the same pages, linked alike, have one head
-  heads-same : (l m : List ℕ) → Links f l → Links f m → Once l → ((p : ℕ) → List-as-Memᴰ p l → p ≢ no_page)
-      → ((p : ℕ) → List-as-Memᴰ p l → List-as-Memᴰ p m) → ((p : ℕ) → List-as-Memᴰ p m → List-as-Memᴰ p l) → head_or l ≡ head_or m
+  heads-same : (l m : List ℕ) → Links f l → Links f m → Once l → ((p : ℕ) → Memᴰ p l → p ≢ no_page)
+      → ((p : ℕ) → Memᴰ p l → Memᴰ p m) → ((p : ℕ) → Memᴰ p m → Memᴰ p l) → head_or l ≡ head_or m
   heads-same [] [] k j u some to from = refl
-  heads-same [] (y ∷ m) k j u some to from = absurd (List·Memᴰ·not-nil (from y (List·Memᴰ·head refl)))
-  heads-same (x ∷ l) [] k j u some to from = absurd (List·Memᴰ·not-nil (to x (List·Memᴰ·head refl)))
+  heads-same [] (y ∷ m) k j u some to from = absurd (mem-not_nil (from y (mem-head refl)))
+  heads-same (x ∷ l) [] k j u some to from = absurd (mem-not_nil (to x (mem-head refl)))
   heads-same (x ∷ l) (y ∷ m) k j u some to from =
-      ⊎_elim (λ e. e) (λ i. absurd (loops i)) (List·Memᴰ·cases-cons (to x (List·Memᴰ·head refl)))
+      ⊎_elim (λ e. e) (λ i. absurd (loops i)) (mem-cases (to x (mem-head refl)))
     where
-      loops : List-as-Memᴰ x m → ⊥
+      loops : Memᴰ x m → ⊥
       loops i =
           let p = follows y m x j i in
           let at_x : next_after p.0 (x ∷ l) ≡ x = sym (links-after f (x ∷ l) k p.0 (from p.0 p.1)) ∙ p.2 in
-          ⊎_elim (λ e. some x (List·Memᴰ·head refl) (sym at_x ∙ e)) (λ n. u.0 (rw at_x at n)) (after_tail p.0 x l)
+          ⊎_elim (λ e. some x (mem-head refl) (sym at_x ∙ e)) (λ n. u.0 (rw at_x at n)) (after_tail p.0 x l)
 
 pub one-head : {ws : List ℕ} {M : ℕ → Bool} {o x y : ℕ} → ((p : ℕ) → T (M p) → p < no_page) → FreeList ws M o x → FreeList ws M o y → x ≡ y
 one-head {ws} low f g = linked-head f ∙ heads-same (λ p. next_in (said ws p)) f.list g.list (linked-links f) (linked-links g)

@@ -1,5 +1,5 @@
 -- To take a named page out of its list is to take its block: the head as such, a later page by the page before it.
-use Rattle.common.specs.Kit.{ℕ, ◌≤◌, ◌<◌, ◌≡◌, refl, sym, ap, ◌∙◌, ◌≢◌, by_cases, Bool, true, List, [], ◌∷◌, List-as-Memᴰ, List·Memᴰ·head, List·Memᴰ·not-nil, length, set, ℕ_discrete, arith, eq-eqb, ne_eqb}
+use Rattle.common.specs.Kit.{ℕ, ◌≤◌, ◌<◌, ◌≡◌, refl, sym, ap, ◌∙◌, ◌≢◌, by_cases, Bool, true, List, [], ◌∷◌, Memᴰ, mem-head, mem-not_nil, length, set, ℕ_discrete, arith, eq-eqb, ne_eqb}
 use lib.Seq.{set_comm}
 use Rattle.common.specs.Numbers.{remove}
 use Rattle.common.proofs.Lists.{update_same, update_other, remove-other}
@@ -37,7 +37,7 @@ module _ {M : ℕ → Bool} {r : HeapMemoryRegion} {h : Heap} (f : Fits M r h) (
   valid : o ≤ 5
   valid = free-small f b
 
-  page-below : (x : ℕ) → List-as-Memᴰ x (h.list o) → x < length (words_of r h)
+  page-below : (x : ℕ) → Memᴰ x (h.list o) → x < length (words_of r h)
   page-below x m = rw (words_long r h) (omega (arith, list-below f o x valid m))
 
   -- the list is x and then xs
@@ -46,7 +46,7 @@ module _ {M : ℕ → Bool} {r : HeapMemoryRegion} {h : Heap} (f : Fits M r h) (
     head-some = head-image r h o (omega (arith, valid)) ∙ rw e
 
     not_none : head_in (image r h) o ≢ no_page
-    not_none = rw head-some (list-some f lent o x valid (rw e (List·Memᴰ·head refl)))
+    not_none = rw head-some (list-some f lent o x valid (rw e (mem-head refl)))
 
     pull-first : x ≡ p → Pulls M r h p o (take h o c)
     unfolding pull pulls
@@ -121,5 +121,5 @@ module _ {M : ℕ → Bool} {r : HeapMemoryRegion} {h : Heap} (f : Fits M r h) (
   pull-image = go (h.list o) refl
     where
       go : (l : List ℕ) → h.list o ≡ l → Pulls M r h p o (take h o c)
-      go [] e = absurd (List·Memᴰ·not-nil (rw e at (free-listed f b)))
+      go [] e = absurd (mem-not_nil (rw e at (free-listed f b)))
       go (x ∷ xs) e = by_cases (ℕ_discrete x p) (pull-first x xs e) (pull-later x xs e)

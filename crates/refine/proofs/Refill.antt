@@ -1,5 +1,5 @@
 -- Rule 4's refill on record and words is the heap's: the same list is the lowest that is not empty, and its head is split down alike.
-use Rattle.common.specs.Kit.{ℕ, zero, suc, ◌+◌, ◌-◌, ◌≤◌, ◌<◌, ◌≡◌, refl, ◌∙◌, Bool, List, [], ◌∷◌, List·Memᴰ·head, zero-add, suc-add, arith, eq-eqb, ne_eqb}
+use Rattle.common.specs.Kit.{ℕ, zero, suc, ◌+◌, ◌-◌, ◌≤◌, ◌<◌, ◌≡◌, refl, ◌∙◌, Bool, List, [], ◌∷◌, mem-head, zero-add, suc-add, arith, eq-eqb, ne_eqb}
 use Rattle.words.specs.Word.{no_page}
 use Rattle.buddy.specs.Runs.{cell}
 use Rattle.buddy.specs.Heap.{Heap}
@@ -56,7 +56,7 @@ module _ {M : ℕ → Bool} {r : HeapMemoryRegion} {h : Heap} (f : Fits M r h) (
   lowest-at (suc left) zero j p ps l low empty is =
       let here : h.list j ≡ p ∷ ps = rw (zero-add j) at is in
       let e : head_in (image r h) j ≡ p = head-image r h j (omega arith) ∙ rw here in
-      rw (ne_eqb (head_in (image r h) j) no_page (rw e (list-some f lent j p (omega arith) (rw here (List·Memᴰ·head refl)))), zero-add j)
+      rw (ne_eqb (head_in (image r h) j) no_page (rw e (list-some f lent j p (omega arith) (rw here (mem-head refl)))), zero-add j)
   lowest-at (suc left) (suc k) j p ps l low empty is =
       let up : k + suc j ≡ suc k + j = omega arith in
       rw (eq-eqb _ _ (empty-head j (omega arith) (empty j (omega arith) (omega arith))), ← up)
@@ -70,7 +70,7 @@ module _ {M : ℕ → Bool} {r : HeapMemoryRegion} {h : Heap} (f : Fits M r h) (
     turn-split : Step M r (SplitOk p (suc (k + o)) (image r (taken h (k + o) p))) (split_state p (k + o) (image r (taken h (k + o) p)))
         (turned h (k + o) p)
     turn-split =
-        let on = list-free f (suc (k + o)) p valid (rw e (List·Memᴰ·head refl)) in
+        let on = list-free f (suc (k + o)) p valid (rw e (mem-head refl)) in
         rw on.head at (split-image turn-take.fits lent
         (take_out h (free-block (suc (k + o)) (cell (suc (k + o)) p) f.core.tiled (rw on.head on))))
 

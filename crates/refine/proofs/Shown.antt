@@ -1,6 +1,6 @@
 -- What is shown of a page: of one below the metadata pages and of one of them, of a block's head and of its other pages. The words of a heap that
 -- fits its region say it: its orders, kinds and next pages are all in the table of words.
-use Rattle.common.specs.Kit.{ℕ, ◌^◌, ◌≤◌, ◌<◌, ◌≡◌, ap, ◌∙◌, ◌≢◌, ◌⊎◌, ⊎_elim, by_cases, Bool, true, List-as-Memᴰ, T, leb, length, get_or, ℕ_discrete, dec_lt, arith, eq-eqb, ne_eqb, lt-ltb, le-ltb, leb-true}
+use Rattle.common.specs.Kit.{ℕ, ◌^◌, ◌≤◌, ◌<◌, ◌≡◌, ap, ◌∙◌, ◌≢◌, ◌⊎◌, ⊎_elim, by_cases, Bool, true, Memᴰ, T, leb, length, get_or, ℕ_discrete, dec_lt, arith, eq-eqb, ne_eqb, lt-ltb, le-ltb, leb-true}
 use Rattle.common.proofs.Tests.{by-test, and-true}
 use Rattle.words.specs.Word.{no_page, no_next, has_field, in_table, decode_of, mem_of}
 use Rattle.words.specs.declared.word.Decoded.TheVariants.{Info}
@@ -80,7 +80,7 @@ module _ {M : ℕ → Bool} {r : HeapMemoryRegion} {h : Heap} (fits : Fits M r h
         small : o ≤ 5
         small = order_small M h.at fits.core.tiled p m
 
-        near : (n : ℕ) → (n ≡ no_page) ⊎ List-as-Memᴰ n (h.list o) → has_field n ≡ true
+        near : (n : ℕ) → (n ≡ no_page) ⊎ Memᴰ n (h.list o) → has_field n ≡ true
         near n = ⊎_elim
             (λ e. rw (eq-eqb n no_page e))
             (λ k.

@@ -1,5 +1,5 @@
 -- To take the head of a list off is to take its block; an empty list stays.
-use Rattle.common.specs.Kit.{ℕ, ◌≤◌, ◌≡◌, refl, sym, ◌∙◌, ◌≢◌, by_cases, Bool, List, [], ◌∷◌, List-as-Memᴰ, List·Memᴰ·head, set, ℕ_discrete, arith, eq-eqb, ne_eqb}
+use Rattle.common.specs.Kit.{ℕ, ◌≤◌, ◌≡◌, refl, sym, ◌∙◌, ◌≢◌, by_cases, Bool, List, [], ◌∷◌, Memᴰ, mem-head, set, ℕ_discrete, arith, eq-eqb, ne_eqb}
 use Rattle.common.specs.Numbers.{remove}
 use Rattle.common.proofs.Lists.{update_same, update_other, remove-same}
 use Rattle.words.specs.Word.{no_page, mem_of}
@@ -56,8 +56,8 @@ module _ {M : ℕ → Bool} {r : HeapMemoryRegion} {h : Heap} (f : Fits M r h) (
       p : ℕ
       p = first o c
 
-      on : List-as-Memᴰ p (h.list o)
-      on = rw e (List·Memᴰ·head refl)
+      on : Memᴰ p (h.list o)
+      on = rw e (mem-head refl)
 
       some : p ≢ no_page
       some = list-some f lent o p valid on
@@ -78,5 +78,5 @@ module _ {M : ℕ → Bool} {r : HeapMemoryRegion} {h : Heap} (f : Fits M r h) (
 
   pub take-image : (p : ℕ) (ps : List ℕ) → h.list o ≡ p ∷ ps → Takes M r h o (At p) (take h o (cell o p))
   take-image p ps e =
-      let hd : first o (cell o p) ≡ p = (list-free f o p valid (rw e (List·Memᴰ·head refl))).head in
+      let hd : first o (cell o p) ≡ p = (list-free f o p valid (rw e (mem-head refl))).head in
       rw hd at (head-taken (cell o p) ps (e ∙ rw hd))

@@ -1,6 +1,6 @@
 -- Heaps that a region can hold. The managed pages are a set M below the metadata pages: while the region is set up M grows, and when that is done
 -- it is `managed`. A page below the metadata pages and outside M has the clean tag (0, used) and so shows Allocated 0.
-use Rattle.common.specs.Kit.{ℕ, ◌^◌, ◌<◌, Bool, T}
+use Rattle.std.specs.Prelude.{ℕ, ◌^◌, ◌<◌, Bool, T}
 use Rattle.buddy.specs.Heap.{Kind, free, used, slab, file, Heap, Core, SoundHeap, Clean}
 use Rattle.region.specs.Layout.{end_of}
 use Rattle.region.specs.declared.HeapMemoryRegion.{HeapMemoryRegion}

@@ -1,5 +1,5 @@
 -- The heap that record and words show, and the record and words that show a heap. All three are total and compute.
-use Rattle.common.specs.Kit.{ℕ, zero, suc, ◌+◌, ◌^◌, ◌≤◌, ◌<◌, ◌≡◌, cond, List, [], ◌∷◌, eqb, ltb, length, get_or, T}
+use Rattle.std.specs.Prelude.{ℕ, zero, suc, ◌+◌, ◌^◌, ◌≤◌, ◌<◌, ◌≡◌, cond, List, [], ◌∷◌, eqb, ltb, length, get_or, T}
 use Rattle.words.specs.Word.{no_page, mem_of}
 use Rattle.words.specs.declared.word.PageInfo.{PageInfo}
 use Rattle.words.specs.declared.word.Decoded.TheVariants.{Info}

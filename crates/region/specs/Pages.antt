@@ -1,5 +1,5 @@
 -- A set M of pages, with a word each: blocks, the tiling, free blocks, lists, buddies and counts, by what the words say.
-use Rattle.common.specs.Kit.{ℕ, ◌+◌, ◌-◌, ◌%◌, ◌^◌, ◌≤◌, ◌<◌, ◌≡◌, Bool, cond, ◌&&◌, List, [], ◌∷◌, T, eqb}
+use Rattle.std.specs.Prelude.{ℕ, ◌+◌, ◌-◌, ◌%◌, ◌^◌, ◌≤◌, ◌<◌, ◌≡◌, Bool, cond, ◌&&◌, List, [], ◌∷◌, T, eqb}
 use Rattle.common.specs.Numbers.{count}
 use Rattle.words.specs.Word.{no_page}
 use Rattle.words.specs.declared.word.PageInfo.{PageInfo}

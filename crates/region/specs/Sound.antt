@@ -1,5 +1,5 @@
 -- When record and words are sound: rules S1 to S13 of docs/RULES.md. `Limits` has S1 to S6; then one field each.
-use Rattle.common.specs.Kit.{ℕ, ◌<◌, ◌≡◌, List, length, get_or}
+use Rattle.std.specs.Prelude.{ℕ, ◌<◌, ◌≡◌, List, length, get_or}
 use Rattle.pages.specs.Info.{allocated_info, reserved_info}
 use Rattle.region.specs.Layout.{end_of, managed, Limits}
 use Rattle.region.specs.Pages.{AllSay, Tiled, FreeList, NoBuddies, blocks, frees}

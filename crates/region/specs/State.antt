@@ -1,6 +1,6 @@
 -- A state, that is a record (W12) and its words, and the single steps on it, as the code makes them: lists, split and merge.
 -- Each has beside it what makes it safe: indexes in range and counts that do not pass their ends. No step speaks of soundness.
-use Rattle.common.specs.Kit.{ℕ, zero, suc, ◌+◌, ◌-◌, ◌^◌, ◌≤◌, ◌<◌, ◌≡◌, Bool, true, false, cond, List, eqb, leb, length, get_or, set}
+use Rattle.std.specs.Prelude.{ℕ, zero, suc, ◌+◌, ◌-◌, ◌^◌, ◌≤◌, ◌<◌, ◌≡◌, Bool, true, false, cond, List, eqb, leb, length, get_or, set}
 use Rattle.words.specs.Word.{no_page, mem_of}
 use Rattle.pages.specs.Info.{free_info, allocated_info}
 use Rattle.pages.specs.Said.{said, next_in}

@@ -1,6 +1,6 @@
 -- The rules on a state, over the single steps, as the code makes them: free (C50), refill and allocate (C40, C41). Each has beside it what makes it
 -- safe.
-use Rattle.common.specs.Kit.{ℕ, zero, suc, ◌+◌, ◌-◌, ◌%◌, ◌^◌, ◌≤◌, ◌<◌, ◌≡◌, Bool, true, false, cond, List, eqb, ltb, length, get_or, set}
+use Rattle.std.specs.Prelude.{ℕ, zero, suc, ◌+◌, ◌-◌, ◌%◌, ◌^◌, ◌≤◌, ◌<◌, ◌≡◌, Bool, true, false, cond, List, eqb, ltb, length, get_or, set}
 use Rattle.words.specs.Word.{no_page, mem_of}
 use Rattle.words.specs.declared.word.PageInfo.{PageInfo}
 use Rattle.pages.specs.Said.{said}

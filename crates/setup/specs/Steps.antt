@@ -1,5 +1,5 @@
 -- Set-up on a state, as the code makes it (C70, C71). Each step has beside it what makes it safe.
-use Rattle.common.specs.Kit.{ℕ, zero, suc, ◌+◌, ◌-◌, ◌*◌, ◌/◌, ◌^◌, ◌≤◌, ◌<◌, cond, List, ltb, length, set}
+use Rattle.std.specs.Prelude.{ℕ, zero, suc, ◌+◌, ◌-◌, ◌*◌, ◌/◌, ◌^◌, ◌≤◌, ◌<◌, cond, List, ltb, length, set}
 use Rattle.words.specs.Word.{mem_of}
 use Rattle.words.specs.declared.place.VirtAddr.{VirtAddr}
 use Rattle.pages.specs.Info.{allocated_info, reserved_info}

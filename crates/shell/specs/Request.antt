@@ -1,6 +1,6 @@
 -- What each request does to the record and the lent words, and what it answers (README.md, "The shell"): a request for a call of the heap does
 -- what the heap promises of that call, and its answer is the call's, as a line. How an answer is written as text is not said here.
-use Rattle.common.specs.Kit.{ℕ, Bool, false, cond, ◌||◌, List, [], ◌∷◌, eqb, leb, ltb, length, get_or, set}
+use Rattle.std.specs.Prelude.{ℕ, Bool, false, cond, ◌||◌, List, [], ◌∷◌, eqb, leb, ltb, length, get_or, set}
 use Rattle.words.specs.Word.{decode_of}
 use Rattle.words.specs.Order.{order_of}
 use Rattle.region.specs.declared.HeapMemoryRegion.{HeapMemoryRegion}

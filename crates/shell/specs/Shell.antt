@@ -1,5 +1,5 @@
 -- The shell from line to line: the record, and the buffer, of which the first words are lent. After a line they are those that its request leaves.
-use Rattle.common.specs.Kit.{ℕ, cond, List, ◌++◌, leb, length, take, drop, replicate}
+use Rattle.std.specs.Prelude.{ℕ, cond, List, ◌++◌, leb, length, take, drop, replicate}
 use Rattle.std.specs.Prelude.{min}
 use Rattle.region.specs.declared.HeapMemoryRegion.{HeapMemoryRegion}
 use Rattle.parse.specs.Line.{parsed}

@@ -1,6 +1,6 @@
 -- Answers as numbers: the number of a refusal, 0 for none, how many values it carries, and these. Promises are stated in these terms. What each
 -- case of the code's enums tells stands here, and in `of_refusal` of the code.
-use Rattle.common.specs.Kit.{ℕ, List, [], ◌∷◌, length, get_or}
+use Rattle.std.specs.Prelude.{ℕ, List, [], ◌∷◌, length, get_or}
 use Rattle.region.specs.declared.HeapMemoryRegion.{HeapMemoryRegion}
 use Rattle.sound_calls.specs.declared.Answer.{Answer}
 use Rattle.sound_calls.specs.declared.AllocError.{AllocError}

@@ -1,5 +1,5 @@
 -- What the inner functions of the calls answer and leave, by the steps on a state.
-use Rattle.common.specs.Kit.{ℕ, ◌<◌, ◌≡◌, [], cond}
+use Rattle.std.specs.Prelude.{ℕ, ◌<◌, ◌≡◌, [], cond}
 use Rattle.words.specs.Place.{address_at}
 use Rattle.words.specs.declared.place.AddressAt.{AddressAt}
 use Rattle.words.specs.declared.word.PageInfo.{PageInfo}

@@ -1,5 +1,5 @@
 -- The count of a file page on its word: rules C61 and C62, as the code makes them. The page stands at address a.
-use Rattle.common.specs.Kit.{ℕ, ◌+◌, ◌-◌, ◌≤◌, ◌<◌, ◌≡◌, cond, List, [], ◌∷◌, leb, length, set}
+use Rattle.std.specs.Prelude.{ℕ, ◌+◌, ◌-◌, ◌≤◌, ◌<◌, ◌≡◌, cond, List, [], ◌∷◌, leb, length, set}
 use Rattle.words.specs.Word.{mem_of}
 use Rattle.words.specs.declared.word.Decoded.TheVariants.{Info}
 use Rattle.pages.specs.Info.{file_info}

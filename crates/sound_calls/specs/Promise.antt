@@ -1,5 +1,5 @@
 -- What each request does on sound input: the checks in the order of the refusals' numbers (R50), then the model's rule. Total functions that compute.
-use Rattle.common.specs.Kit.{ℕ, ◌+◌, ◌-◌, ◌*◌, ◌^◌, Bool, false, cond, List, [], ◌∷◌, ltb, not}
+use Rattle.std.specs.Prelude.{ℕ, ◌+◌, ◌-◌, ◌*◌, ◌^◌, Bool, false, cond, List, [], ◌∷◌, ltb, not}
 use Rattle.words.specs.Place.{page_at}
 use Rattle.words.specs.declared.place.PageAt.{PageAt}
 use Rattle.words.specs.declared.place.PageAt.TheVariants.{Start, Within}

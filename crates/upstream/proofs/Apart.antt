@@ -1,6 +1,6 @@
 -- Blocks of a tiling do not overlap, be they free or out. Upstream has this from permissions to memory; here one tag to a page is enough.
 -- These are results.
-use Rattle.common.specs.Kit.{ℕ, ◌+◌, ◌^◌, ◌≤◌, ◌<◌, ◌≡◌, refl, sym, ◌∙◌, ◌≢◌, ◌⊎◌, inl, inr, by_cases, Bool, List-as-Memᴰ, T, dec_le, arith}
+use Rattle.common.specs.Kit.{ℕ, ◌+◌, ◌^◌, ◌≤◌, ◌<◌, ◌≡◌, refl, sym, ◌∙◌, ◌≢◌, ◌⊎◌, inl, inr, by_cases, Bool, Memᴰ, T, dec_le, arith}
 use Rattle.buddy.specs.Runs.{cell, Head}
 use Rattle.buddy.specs.Heap.{Tag, Tiled, Heap, Core}
 use Rattle.buddy.proofs.RunLaws.{cell-between, head-unique}
@@ -25,7 +25,7 @@ module _ {M : ℕ → Bool} {at : ℕ → Tag} (tiled : Tiled M at) where
 
 -- the block of order o at page p stands in the heap, on its list or out
 abbrev pub Stands : (ℕ → Bool) → Heap → ℕ → ℕ → Type 0
-Stands M h o p = ((o ≤ 5) × List-as-Memᴰ p (h.list o)) ⊎ (Head o p × BlockOut M h.at o (cell o p))
+Stands M h o p = ((o ≤ 5) × Memᴰ p (h.list o)) ⊎ (Head o p × BlockOut M h.at o (cell o p))
 
 module _ {M : ℕ → Bool} {n : ℕ} {h : Heap} (k : Core M n h) where
   -- either way page p is managed and heads a block of order o
@@ -48,6 +48,6 @@ module _ {M : ℕ → Bool} {n : ℕ} {h : Heap} (k : Core M n h) where
   out-apart head out = stands-apart (inr (head, out))
 
   -- the blocks at two places of the lists
-  pub lists-apart : {o j p q : ℕ} → o ≤ 5 → j ≤ 5 → List-as-Memᴰ p (h.list o) → List-as-Memᴰ q (h.list j) → (o ≡ j → p ≢ q)
+  pub lists-apart : {o j p q : ℕ} → o ≤ 5 → j ≤ 5 → Memᴰ p (h.list o) → Memᴰ q (h.list j) → (o ≡ j → p ≢ q)
       → (p + 2 ^ o ≤ q) ⊎ (q + 2 ^ j ≤ p)
   lists-apart lo lj mp mq = stands-apart (inl (lo, mp)) (inl (lj, mq))

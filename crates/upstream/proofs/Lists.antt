@@ -1,6 +1,6 @@
 -- What the list steps do to the lists: the head is taken and the rest stays; a block that is not found leaves everything.
 -- These are results.
-use Rattle.common.specs.Kit.{ℕ, ◌+◌, ◌≤◌, ◌≡◌, refl, ◌∙◌, ◌≢◌, Bool, true, false, true≢false, List, ◌∷◌, List·Memᴰ·head, eqb, arith}
+use Rattle.common.specs.Kit.{ℕ, ◌+◌, ◌≤◌, ◌≡◌, refl, ◌∙◌, ◌≢◌, Bool, true, false, true≢false, List, ◌∷◌, mem-head, eqb, arith}
 use Rattle.common.proofs.Tests.{by-test}
 use Rattle.common.proofs.Lists.{update_same, update_other, remove-same}
 use Rattle.words.specs.Word.{no_page}
@@ -42,7 +42,7 @@ take-popped {M} {r} {h} f lent o valid p ps e = record {
 
     left : (take h o (cell o p)).list o ≡ ps
     left = update_same h.list o _ o refl
-        ∙ rw (e, (list-free f o p valid (rw e (List·Memᴰ·head refl))).head) (remove-same p p ps refl)
+        ∙ rw (e, (list-free f o p valid (rw e (mem-head refl))).head) (remove-same p p ps refl)
 
 -- allocate_pfn that finds nothing
 pub pull-kept : (p o : ℕ) (s : State) → pulls p o s ≡ false → pull p o s ≡ s

@@ -1,6 +1,6 @@
 -- How many blocks there can be: with their sizes they fill no more than the managed pages, since every block ends inside them. Upstream's
 -- bounds allow one block beyond the end. These are results.
-use Rattle.common.specs.Kit.{ℕ, zero, suc, ◌+◌, ◌*◌, ◌^◌, ◌≤◌, ◌<◌, ◌≡◌, refl, sym, ◌≢◌, by_cases, Bool, false, List, [], ◌∷◌, List-as-Memᴰ, List·Memᴰ·head, List·Memᴰ·tail, T, length, pow_pos, pow_mono, ℕ_discrete, dec_le, arith}
+use Rattle.common.specs.Kit.{ℕ, zero, suc, ◌+◌, ◌*◌, ◌^◌, ◌≤◌, ◌<◌, ◌≡◌, refl, sym, ◌≢◌, by_cases, Bool, false, List, [], ◌∷◌, Memᴰ, mem-head, mem-tail, T, length, pow_pos, pow_mono, ℕ_discrete, dec_le, arith}
 use native.Mathlib.Nat.{mul-le-mul_left, mul-le-mul_right, le-mul_of_pos_right}
 use Rattle.common.specs.Numbers.{update, Once, one, count}
 use Rattle.common.proofs.Tests.{T_true}
@@ -17,15 +17,15 @@ use Rattle.buddy.proofs.Totals.{totals}
 use Rattle.buddy.proofs.Refill.{push-head}
 
 -- numbers below n that pass a test, each once
-once-most : (n : ℕ) (f : ℕ → Bool) (l : List ℕ) → Once l → ((p : ℕ) → List-as-Memᴰ p l → T (f p) × (p < n)) → length l ≤ count f n
+once-most : (n : ℕ) (f : ℕ → Bool) (l : List ℕ) → Once l → ((p : ℕ) → Memᴰ p l → T (f p) × (p < n)) → length l ≤ count f n
 once-most n f [] u is = omega arith
 once-most n f (x ∷ l) u is =
-    let here = is x (List·Memᴰ·head refl) in
+    let here = is x (mem-head refl) in
     let changed : count f n + one (update f x false x) ≡ count (update f x false) n + one (f x) =
     count_at f (update f x false) x n here.1 (λ p k. sym (update_other f x false p k)) in
     let rest = once-most n (update f x false) l u.1 (λ p m.
     let k : p ≢ x = λ e. u.0 (rw e at m) in
-    let b = is p (List·Memᴰ·tail m) in
+    let b = is p (mem-tail m) in
     (rw (update_other f x false p k) b.0, b.1)) in
     omega (arith, rest, rw (update_same f x false x refl, T_true (f x) here.0) at changed)
 

@@ -1,5 +1,5 @@
 -- The customer's cases of words and orders (W1 to W9) that are to be proved, and the edges of `get_order`, in one table.
-use Rattle.common.specs.Kit.{ℕ, List, [], ◌∷◌}
+use Rattle.std.specs.Prelude.{ℕ, List, [], ◌∷◌}
 use Rattle.words.specs.Word.{decode_of, encode_of, no_page}
 use Rattle.words.specs.Order.{order_of}
 use Rattle.words.specs.declared.word.PageInfo.{PageInfo}

@@ -1,5 +1,5 @@
 -- The order of a size in bytes (W9).
-use Rattle.common.specs.Kit.{ℕ, zero, suc, ◌+◌, ◌*◌, ◌^◌, ◌≤◌, ◌<◌, cond, leb}
+use Rattle.std.specs.Prelude.{ℕ, zero, suc, ◌+◌, ◌*◌, ◌^◌, ◌≤◌, ◌<◌, cond, leb}
 
 -- the bytes of a block of order o
 abbrev pub block_bytes : ℕ → ℕ

@@ -1,5 +1,5 @@
 -- The pages of a region and their addresses: `pages` pages of 4,096 bytes from the address `start` on (W10, W11).
-use Rattle.common.specs.Kit.{ℕ, ◌+◌, ◌-◌, ◌*◌, ◌/◌, ◌%◌, ◌^◌, cond, eqb, leb, ltb}
+use Rattle.std.specs.Prelude.{ℕ, ◌+◌, ◌-◌, ◌*◌, ◌/◌, ◌%◌, ◌^◌, cond, eqb, leb, ltb}
 use Rattle.words.specs.declared.place.PageAt.{PageAt}
 use Rattle.words.specs.declared.place.PageAt.TheVariants.{Start, Within}
 use Rattle.words.specs.declared.place.AddressAt.{AddressAt}

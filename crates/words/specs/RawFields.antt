@@ -1,5 +1,5 @@
 -- A page's raw fields as numbers (W7): the type's number (W1), then order, item size or count, then the next page.
-use Rattle.common.specs.Kit.{ℕ, cond, ◌&&◌, eqb}
+use Rattle.std.specs.Prelude.{ℕ, cond, ◌&&◌, eqb}
 use Rattle.words.specs.Word.{encode_of}
 use Rattle.words.specs.declared.word.PageInfo.{PageInfo}
 use Rattle.words.specs.declared.word.PageInfo.TheVariants.{Free, Allocated, Slab, Compound, File, Reserved}
