@@ -12,8 +12,7 @@ use words::place::VirtAddr;
 pub const REPORT: usize = 12;
 
 // Size and alignment of what the page of an address was granted as.
-#[unsafe(no_mangle)]
-pub extern "C" fn tingmudra_layout_from_ptr(numbers: &[u64], words: &[u64], vaddr: u64) -> Exported
+pub fn tingmudra_layout_from_ptr(numbers: &[u64], words: &[u64], vaddr: u64) -> Exported
     ensures { result ≡ lookup_answer numbers.now words.now vaddr }
 {
     if numbers.len() != RECORD {
@@ -23,8 +22,7 @@ pub extern "C" fn tingmudra_layout_from_ptr(numbers: &[u64], words: &[u64], vadd
 }
 
 // Whether record and words are sound.
-#[unsafe(no_mangle)]
-pub extern "C" fn tingmudra_audit(numbers: &[u64], words: &[u64]) -> Exported
+pub fn tingmudra_audit(numbers: &[u64], words: &[u64]) -> Exported
     ensures { result ≡ audit_answer numbers.now words.now }
 {
     if numbers.len() != RECORD {
@@ -34,12 +32,7 @@ pub extern "C" fn tingmudra_audit(numbers: &[u64], words: &[u64]) -> Exported
 }
 
 // Blocks and free blocks of each order, written to `report`.
-#[unsafe(no_mangle)]
-pub extern "C" fn tingmudra_memory_info(
-    numbers: &[u64],
-    words: &[u64],
-    report: &mut [u64],
-) -> Exported
+pub fn tingmudra_memory_info(numbers: &[u64], words: &[u64], report: &mut [u64]) -> Exported
     ensures { reported result report.new ≡ report_left numbers.now words.now report.old }
 {
     if numbers.len() != RECORD {

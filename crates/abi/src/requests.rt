@@ -16,8 +16,7 @@ use sound_calls::{Answer, Done, of_count, of_done, of_grant};
 use words::place::VirtAddr;
 
 // Sets a region up on the lent words.
-#[unsafe(no_mangle)]
-pub extern "C" fn tingmudra_root_mem_init(
+pub fn tingmudra_root_mem_init(
     numbers: &mut [u64],
     words: &mut [u64],
     start: u64,
@@ -40,12 +39,7 @@ pub extern "C" fn tingmudra_root_mem_init(
 }
 
 // Grants a block of 2^order pages.
-#[unsafe(no_mangle)]
-pub extern "C" fn tingmudra_allocate_pages(
-    numbers: &mut [u64],
-    words: &mut [u64],
-    order: u64,
-) -> Exported
+pub fn tingmudra_allocate_pages(numbers: &mut [u64], words: &mut [u64], order: u64) -> Exported
     ensures { left result numbers.new words.new ≡ call_left numbers.old words.old (for_block order) }
 {
     if numbers.len() != RECORD {
@@ -57,8 +51,7 @@ pub extern "C" fn tingmudra_allocate_pages(
 }
 
 // Grants a file page, with count 1.
-#[unsafe(no_mangle)]
-pub extern "C" fn tingmudra_allocate_file_page(numbers: &mut [u64], words: &mut [u64]) -> Exported
+pub fn tingmudra_allocate_file_page(numbers: &mut [u64], words: &mut [u64]) -> Exported
     ensures { left result numbers.new words.new ≡ call_left numbers.old words.old for_file }
 {
     if numbers.len() != RECORD {
@@ -70,8 +63,7 @@ pub extern "C" fn tingmudra_allocate_file_page(numbers: &mut [u64], words: &mut 
 }
 
 // Grants a slab page for items of a size.
-#[unsafe(no_mangle)]
-pub extern "C" fn tingmudra_allocate_slab_page(
+pub fn tingmudra_allocate_slab_page(
     numbers: &mut [u64],
     words: &mut [u64],
     item_size: u64,
@@ -87,12 +79,7 @@ pub extern "C" fn tingmudra_allocate_slab_page(
 }
 
 // Frees the block at an address.
-#[unsafe(no_mangle)]
-pub extern "C" fn tingmudra_free_page(
-    numbers: &mut [u64],
-    words: &mut [u64],
-    vaddr: u64,
-) -> Exported
+pub fn tingmudra_free_page(numbers: &mut [u64], words: &mut [u64], vaddr: u64) -> Exported
     ensures { left result numbers.new words.new ≡ call_left numbers.old words.old (on to_free vaddr) }
 {
     if numbers.len() != RECORD {
@@ -104,12 +91,7 @@ pub extern "C" fn tingmudra_free_page(
 }
 
 // One more reference to a file page; the record stays as it is.
-#[unsafe(no_mangle)]
-pub extern "C" fn tingmudra_get_file_page(
-    numbers: &[u64],
-    words: &mut [u64],
-    vaddr: u64,
-) -> Exported
+pub fn tingmudra_get_file_page(numbers: &[u64], words: &mut [u64], vaddr: u64) -> Exported
     ensures { left result numbers.now words.new ≡ call_left numbers.now words.old (on to_get vaddr) }
 {
     if numbers.len() != RECORD {
@@ -119,12 +101,7 @@ pub extern "C" fn tingmudra_get_file_page(
 }
 
 // One reference less to a file page; at 0 the page is free.
-#[unsafe(no_mangle)]
-pub extern "C" fn tingmudra_put_file_page(
-    numbers: &mut [u64],
-    words: &mut [u64],
-    vaddr: u64,
-) -> Exported
+pub fn tingmudra_put_file_page(numbers: &mut [u64], words: &mut [u64], vaddr: u64) -> Exported
     ensures { left result numbers.new words.new ≡ call_left numbers.old words.old (on to_put vaddr) }
 {
     if numbers.len() != RECORD {
@@ -136,8 +113,7 @@ pub extern "C" fn tingmudra_put_file_page(
 }
 
 // The record of a region without pages.
-#[unsafe(no_mangle)]
-pub extern "C" fn tingmudra_empty_region(numbers: &mut [u64]) -> Exported
+pub fn tingmudra_empty_region(numbers: &mut [u64]) -> Exported
     ensures { left result numbers.new [] ≡ empty_left numbers.old }
 {
     if numbers.len() != RECORD {

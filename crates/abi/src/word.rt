@@ -24,8 +24,7 @@ pub struct Fields {
 }
 
 // What a page's word says.
-#[unsafe(no_mangle)]
-pub extern "C" fn tingmudra_decode(word: u64) -> Fields
+pub fn tingmudra_decode(word: u64) -> Fields
     ensures { result ≡ said_of (decode_of word) }
 {
     let Decoded::Info(info) = decode(word) else {
@@ -46,8 +45,7 @@ pub extern "C" fn tingmudra_decode(word: u64) -> Fields
 }
 
 // The word of raw fields, by the type's number.
-#[unsafe(no_mangle)]
-pub extern "C" fn tingmudra_encode(kind: u64, field: u64, next: u64) -> Exported
+pub fn tingmudra_encode(kind: u64, field: u64, next: u64) -> Exported
     ensures { result ≡ encoded_of (encode_fields kind field next) }
 {
     let Encoded::Word(word) = encode_fields(kind, field, next) else {
@@ -65,8 +63,7 @@ pub extern "C" fn tingmudra_encode(kind: u64, field: u64, next: u64) -> Exported
 }
 
 // The least order whose block holds a size in bytes.
-#[unsafe(no_mangle)]
-pub extern "C" fn tingmudra_get_order(size: u64) -> u64
+pub fn tingmudra_get_order(size: u64) -> u64
     ensures { result ≡ order_of size }
 {
     get_order(size as usize) as u64

@@ -47,26 +47,43 @@ fn write_out(rt: &impl Print, s: &[u8]) -> usize {
     }
 }
 
-// The buffer and what waits in it, for std's formats.
+// The digits of a number as std's formats give them, gathered here so that they go out in one piece.
 #[derive(Drop)]
-struct Waiting<'a, R> {
-    rt: &'a R,
-    out: &'a mut [u8],
-    at: usize,
+struct Digits {
+    bytes: [u8; 20],
+    count: usize,
 }
 
-impl<R: Print> Write for Waiting<'_, R> {
+impl Digits {
+    fn none() -> Digits {
+        Digits {
+            bytes: [0; 20],
+            count: 0,
+        }
+    }
+
+    fn gathered(&self) -> &[u8] {
+        &self.bytes[..self.count.min(20)]
+    }
+}
+
+impl Write for Digits {
     fn write_str(&mut self, s: &str) -> fmt::Result {
-        self.at = text(self.rt, self.out, self.at, s.as_bytes());
+        for byte in s.as_bytes() {
+            if self.count < 20 {
+                self.bytes[self.count] = *byte;
+                self.count += 1;
+            }
+        }
         Ok(())
     }
 }
 
 // A number in decimal.
 pub fn decimal(rt: &impl Print, out: &mut [u8], at: usize, n: u64) -> usize {
-    let mut waiting = Waiting { rt, out, at };
-    let _ = write!(waiting, "{n}");
-    waiting.at
+    let mut digits = Digits::none();
+    let _ = write!(digits, "{n}");
+    text(rt, out, at, digits.gathered())
 }
 
 // A text and a number.
@@ -77,15 +94,26 @@ pub fn named(rt: &impl Print, out: &mut [u8], at: usize, name: &[u8], n: u64) ->
 
 // A number in decimal, to the right of a column of five.
 pub fn column(rt: &impl Print, out: &mut [u8], at: usize, n: u64) -> usize {
-    let mut waiting = Waiting { rt, out, at };
-    let _ = write!(waiting, "{n:>5}");
-    waiting.at
+    let mut digits = Digits::none();
+    let _ = write!(digits, "{n}");
+    let from = indent(rt, out, at, digits.count);
+    text(rt, out, from, digits.gathered())
+}
+
+// The blanks before `k` digits in that column.
+fn indent(rt: &impl Print, out: &mut [u8], at: usize, k: usize) -> usize {
+    let blanks = [b' '; 5];
+    if k < blanks.len() {
+        text(rt, out, at, &blanks[k..])
+    } else {
+        at
+    }
 }
 
 // A number in lower-case hexadecimal, with zeros in front up to `width` digits, of 16 at most.
 pub fn hex(rt: &impl Print, out: &mut [u8], at: usize, n: u64, width: usize) -> usize {
     let width = width.min(16);
-    let mut waiting = Waiting { rt, out, at };
-    let _ = write!(waiting, "{n:0width$x}");
-    waiting.at
+    let mut digits = Digits::none();
+    let _ = write!(digits, "{n:0width$x}");
+    text(rt, out, at, digits.gathered())
 }
