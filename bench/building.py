@@ -29,9 +29,9 @@ def need(*programs):
 
 def build():
     """Needs rt and cargo."""
-    say("bench/native abi target/native/libabi.a")
+    say("bench/native abi_c target/native/libabi.a")
     os.makedirs(os.path.dirname(ARCHIVE), exist_ok=True)
-    output("bench/native", "abi", ARCHIVE)
+    output("bench/native", "abi_c", ARCHIVE)
     say("cargo build")
     subprocess.run(["cargo", "build", "--release", "--offline", "--locked", "--quiet"], check=True,
                    cwd=os.path.join(ROOT, "bench/ratios"), env=dict(os.environ, TINGMUDRA_LIB=os.path.dirname(ARCHIVE)))

@@ -1,10 +1,10 @@
 /*
  * Tingmudra: a proved page heap, for C99 and C++. Link with one of these archives, which have the same functions:
- *   - crates/abi/out/libabi.a, which `rt lib` writes in crates/abi: for user space on x86-64 with SSE4.2 (x86-64-v2).
- *     It uses vector registers and the red zone, so it is not for a kernel;
+ *   - target/staticlib/libabi.a, which `bindings/module abi_c target/staticlib/libabi.a` writes: for user space on x86-64
+ *     with SSE4.2 (x86-64-v2). It uses vector registers and the red zone, so it is not for a kernel;
  *   - target/kernel/MACHINE/libabi.a, which `bindings/kernel` writes, MACHINE being x86_64 or aarch64: for kernels and
  *     monitors. General registers only, no red zone, position-independent;
- *   - OUT.a, which `bindings/module --for aarch64 abi OUT.a` writes: for user space on Arm.
+ *   - OUT.a, which `bindings/module --for aarch64 abi_c OUT.a` writes: for user space on Arm.
  * The kit makes all of them on x86-64.
  *
  * A region is a record (struct tingmudra_region) and one word a page, lent by the caller. Keep both together and hand

@@ -8,8 +8,8 @@ use std::path::PathBuf;
 fn made(system: &str, machine: &str) -> (String, String) {
     match (system, machine) {
         ("none", _) => (format!("target/kernel/{machine}"), format!("bindings/kernel {machine}")),
-        (_, "x86_64") => ("crates/abi/out".into(), "(cd crates/abi && rt lib)".into()),
-        _ => (format!("target/{machine}"), format!("bindings/module --for {machine} abi target/{machine}/libabi.a")),
+        (_, "x86_64") => ("target/staticlib".into(), "bindings/module abi_c target/staticlib/libabi.a".into()),
+        _ => (format!("target/{machine}"), format!("bindings/module --for {machine} abi_c target/{machine}/libabi.a")),
     }
 }
 
