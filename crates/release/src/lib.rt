@@ -19,6 +19,7 @@ pub struct Tried {
 }
 
 // The buddy of a block: below order 5, and inside a region of `page_count` pages.
+#[tactic(auto, unfolding(region::specs::Steps::neighbor))]
 pub fn compound_neighbor(page_count: usize, pfn: usize, order: usize) -> Found
     requires { NeighborOk pfn order }
     ensures { result ≡ neighbor page_count pfn order }

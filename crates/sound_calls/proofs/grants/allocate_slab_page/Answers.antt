@@ -1,25 +1,28 @@
 -- By the laws `slab-code` and `slab-bad`. The code's types make what it calls sound input.
 use Rattle.common.specs.Kit.{sym, ◌∙◌, arith, rules}
+use Rattle.sound_calls.proofs.SoundInput.{SoundInput}
 use Rattle.sound_calls.proofs.Typing.{good}
 use Rattle.sound_calls.proofs.GrantLaws.{grant-ok, slab-code, slab-bad}
 use Rattle.sound_calls.proofs.grants.allocate_slab_page.Goals as goal
+use Rattle.sound_calls.proofs.grants.allocate_slab_page.Goals.{After-good_item}
+
+state : (c : After-good_item) → SoundInput c.args.region c.args.words.now
+state c = good c.args.region c.args.words.now (search rules) (search rules) (search rules) (λ i. search rules) c.requires
 
 pub allocate_info-requires : goal.allocate_info-requires
-allocate_info-requires c = grant-ok (good c.args.region c.args.words.now (search rules) (search rules) (search rules) (λ i. search rules) c.requires) 0 (omega arith)
+allocate_info-requires c = grant-ok (state (goal.at.allocate_info-requires c).After-good_item) 0 (omega arith)
 
 pub returns-then-good_item : goal.returns-then-good_item
 returns-then-good_item c =
-    let state = good c.args.region c.args.words.now (search rules) (search rules) (search rules) (λ i. search rules) c.requires in
-    c.allocate_info.ensures ∙ slab-code state _ (sym c.good_item.ensures ∙ c.if-good_item.true)
+    c.allocate_info.ensures
+    ∙ slab-code (state (goal.at.returns-then-good_item c).After-good_item) _ (sym c.good_item.ensures ∙ c.if-good_item.true)
 
 pub returns-in_default : goal.returns-in_default
 returns-in_default c =
-    let state = good c.args.region c.args.words.now (search rules) (search rules) (search rules) (λ i. search rules) c.requires in
     rw (sym c.find_order-found.ensures ∙ c.in_default.is) at
-    (slab-bad state c.args.item_size (sym c.good_item.ensures ∙ c.if-good_item.false))
+    (slab-bad (state (goal.at.returns-in_default c).After-good_item) c.args.item_size (sym c.good_item.ensures ∙ c.if-good_item.false))
 
 pub returns : goal.returns
 returns c =
-    let state = good c.args.region c.args.words.now (search rules) (search rules) (search rules) (λ i. search rules) c.requires in
     rw (sym c.find_order-found.ensures ∙ c.in-At.is) at
-    (slab-bad state c.args.item_size (sym c.good_item.ensures ∙ c.if-good_item.false))
+    (slab-bad (state (goal.at.returns c).After-good_item) c.args.item_size (sym c.good_item.ensures ∙ c.if-good_item.false))

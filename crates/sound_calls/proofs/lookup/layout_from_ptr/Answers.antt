@@ -1,38 +1,29 @@
--- The place that `get_pfn` answers picks the case. Where the arms meet, the page is the one that the address names.
+-- The place that `get_pfn` answers picks the case.
 use Rattle.common.specs.Kit.{sym, ◌∙◌, arith, rules}
 use Rattle.sound_calls.proofs.Typing.{good}
 use Rattle.sound_calls.proofs.Places.{Names, start-names, within-names}
 use Rattle.sound_calls.proofs.Heads.{said_ok}
 use Rattle.sound_calls.proofs.lookup.layout_from_ptr.Goals as goal
-use Rattle.sound_calls.proofs.lookup.layout_from_ptr.Goals.{in-Start, in-Within}
+use Rattle.sound_calls.proofs.lookup.layout_from_ptr.Goals.{Joined-place, in-Start, in-Within}
+
+-- where the arms meet, the page is the one that the address names
+names : (c : Joined-place) → Names c.args.region c.args.words.now c.args.vaddr.0 c.match-place.page
+names c =
+    let at = sym c.get_pfn-place.ensures in
+    elim c.match-place.branch [
+      | in-Start w ↦ rw w.page-is (start-names _ _ _ _ (at ∙ w.in-Start.is))
+      | in-Within w ↦ rw w.page-is (within-names _ _ _ _ (at ∙ w.in-Within.is))
+    ]
 
 pub read_page_info-requires : goal.read_page_info-requires
 read_page_info-requires c =
-    let at = sym c.get_pfn-place.ensures in
-    let names : Names c.args.region c.args.words.now c.args.vaddr.0 c.match-place.page =
-    elim c.match-place.branch [
-      | in-Start w ↦ rw w.page-is (start-names _ _ _ _ (at ∙ w.in-Start.is))
-      | in-Within w ↦ rw w.page-is (within-names _ _ _ _ (at ∙ w.in-Within.is))
-    ] in
-    omega (arith, c.requires.limits.long, names.page)
+    omega (arith, c.requires.limits.long, (names (goal.at.read_page_info-requires c).Joined-place).page)
 
 pub layout_of-requires : goal.layout_of-requires
 layout_of-requires c =
-    let at = sym c.get_pfn-place.ensures in
-    let names : Names c.args.region c.args.words.now c.args.vaddr.0 c.match-place.page =
-    elim c.match-place.branch [
-      | in-Start w ↦ rw w.page-is (start-names _ _ _ _ (at ∙ w.in-Start.is))
-      | in-Within w ↦ rw w.page-is (within-names _ _ _ _ (at ∙ w.in-Within.is))
-    ] in
     let state = good c.args.region c.args.words.now (search rules) (search rules) (search rules) (λ i. search rules) c.requires in
-    rw c.read_page_info.ensures (said_ok state _ (omega (arith, c.requires.limits.long, names.page)))
+    let named = names (goal.at.layout_of-requires c).Joined-place in
+    rw c.read_page_info.ensures (said_ok state _ (omega (arith, c.requires.limits.long, named.page)))
 
 pub returns : goal.returns
-returns c =
-    let at = sym c.get_pfn-place.ensures in
-    let names : Names c.args.region c.args.words.now c.args.vaddr.0 c.match-place.page =
-    elim c.match-place.branch [
-      | in-Start w ↦ rw w.page-is (start-names _ _ _ _ (at ∙ w.in-Start.is))
-      | in-Within w ↦ rw w.page-is (within-names _ _ _ _ (at ∙ w.in-Within.is))
-    ] in
-    c.layout_of.ensures ∙ rw c.read_page_info.ensures names.looked
+returns c = c.layout_of.ensures ∙ rw c.read_page_info.ensures (names (goal.at.returns c).Joined-place).looked
