@@ -8,7 +8,7 @@ ghost use Rattle.abi.specs.Word.{said_of, encoded_of};
 use crate::answer::Exported;
 use heap::word::{decode, encode_fields, get_order};
 use words::raw::fields_of;
-use words::word::{Decoded, Encoded};
+use words::word::{};
 
 // No word has these fields, or no fields this word: the plain "no" (W6, W7), under a number of our own (`BAD_BUFFER`).
 pub const NO: u64 = 0x4000_0001;
@@ -27,7 +27,7 @@ pub struct Fields {
 pub fn tingmudra_decode(word: u64) -> Fields
     ensures { result ≡ said_of (decode_of word) }
 {
-    let Decoded::Info(info) = decode(word) else {
+    let Some(info) = decode(word) else {
         return Fields {
             number: NO,
             kind: 0,
@@ -48,7 +48,7 @@ pub fn tingmudra_decode(word: u64) -> Fields
 pub fn tingmudra_encode(kind: u64, field: u64, next: u64) -> Exported
     ensures { result ≡ encoded_of (encode_fields kind field next) }
 {
-    let Encoded::Word(word) = encode_fields(kind, field, next) else {
+    let Some(word) = encode_fields(kind, field, next) else {
         return Exported {
             number: NO,
             value: 0,

@@ -1,10 +1,8 @@
 -- Tilings: a test that goes from block to block decides whether the pages of a set M are tiled, since in a tiling a page that heads an order
 -- starts a block.
-use Rattle.common.specs.Kit.{ℕ, zero, suc, ◌+◌, ◌-◌, ◌%◌, ◌^◌, ◌≤◌, ◌<◌, ◌≡◌, refl, ap, ◌∙◌, ◌≢◌, ◌↔◌, subst, Bool, true, false, cond, ◌&&◌, ◌||◌, List, T, leb, pow_pos, le_refl, ℕ_discrete, dec_lt, arith, lt-ltb, le-leb, lt-leb}
+use Rattle.common.specs.Kit.{ℕ, zero, suc, ◌+◌, ◌-◌, ◌%◌, ◌^◌, ◌≤◌, ◌<◌, ◌≡◌, refl, ap, ◌∙◌, ◌≢◌, ◌↔◌, subst, Bool, true, false, cond, ◌&&◌, ◌||◌, List, T, leb, pow_pos, le_refl, ℕ_discrete, dec_lt, arith, lt-ltb, le-leb, lt-leb, Option, Some, None}
 use Rattle.common.proofs.Tests.{by-test}
 use Rattle.words.specs.declared.word.PageInfo.TheVariants.{Free, Allocated, Slab, Compound, File, Reserved}
-use Rattle.words.specs.declared.word.Decoded.{Decoded}
-use Rattle.words.specs.declared.word.Decoded.TheVariants.{Info}
 use Rattle.buddy.specs.Rules.{span}
 use Rattle.buddy.proofs.Spans.{T-span, span-T}
 use Rattle.pages.specs.Info.{compound_info}
@@ -16,15 +14,16 @@ use Rattle.audit.specs.Check.{all, block_at, tiles}
 use Rattle.audit.proofs.Limit.{Bounded}
 use Rattle.audit.proofs.Decisions.{decide-as, decide-same, decide_eq, decide-le, decide-lt, decide_T, decide-and, decide-all}
 use Rattle.audit.proofs.Saying.{decide-say}
+use Rattle.words.specs.declared.word.PageInfo.{PageInfo}
 
-pub free-head : (d : Decoded) → free_order d < 6 → head_order d ≡ free_order d
-free-head (Info (Free fi)) h = refl
-free-head (Info (Allocated ai)) h = absurd (omega arith)
-free-head (Info (Slab si)) h = absurd (omega arith)
-free-head (Info (Compound ci)) h = absurd (omega arith)
-free-head (Info (File fi)) h = absurd (omega arith)
-free-head (Info (Reserved ri)) h = absurd (omega arith)
-free-head Decoded.No h = absurd (omega arith)
+pub free-head : (d : Option PageInfo) → free_order d < 6 → head_order d ≡ free_order d
+free-head (Some (Free fi)) h = refl
+free-head (Some (Allocated ai)) h = absurd (omega arith)
+free-head (Some (Slab si)) h = absurd (omega arith)
+free-head (Some (Compound ci)) h = absurd (omega arith)
+free-head (Some (File fi)) h = absurd (omega arith)
+free-head (Some (Reserved ri)) h = absurd (omega arith)
+free-head None h = absurd (omega arith)
 
 module _ (ws : List ℕ) (M : ℕ → Bool) where
   -- a page that starts a block starts one of the order that it heads

@@ -3,13 +3,13 @@ ghost use Rattle.std.specs.Prelude.{◌≡◌};
 ghost use Rattle.pages.specs.Meaning.{head_order, free_order};
 
 use pages::good_item;
-use words::word::{Decoded, MAX_ORDER, PageInfo};
+use words::word::{MAX_ORDER, PageInfo};
 
 // The order of the block that a page heads; MAX_ORDER if it heads none.
-pub fn head_order(said: Decoded) -> usize
+pub fn head_order(said: Option<PageInfo>) -> usize
     ensures { result ≡ head_order said }
 {
-    let Decoded::Info(info) = said else {
+    let Some(info) = said else {
         return MAX_ORDER;
     };
     match info {
@@ -29,10 +29,10 @@ pub fn head_order(said: Decoded) -> usize
 }
 
 // The order of the free block that a page heads; MAX_ORDER if it heads none.
-pub fn free_order(said: Decoded) -> usize
+pub fn free_order(said: Option<PageInfo>) -> usize
     ensures { result ≡ free_order said }
 {
-    let Decoded::Info(info) = said else {
+    let Some(info) = said else {
         return MAX_ORDER;
     };
     let PageInfo::Free(fi) = info else {

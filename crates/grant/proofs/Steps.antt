@@ -1,15 +1,14 @@
 -- The steps of a grant: the search for a list and the split down, taken one step, and the page that is taken.
-use Rattle.common.specs.Kit.{ℕ, suc, ◌+◌, ◌-◌, ◌<◌, ◌≡◌, refl, cond, List, eqb, length, get_or, add-one, arith, eqb-false}
+use Rattle.common.specs.Kit.{ℕ, suc, ◌+◌, ◌-◌, ◌<◌, ◌≡◌, refl, cond, List, eqb, length, get_or, add-one, arith, eqb-false, Some}
 use Rattle.common.proofs.Tests.{by-test}
 use Rattle.words.specs.Word.{no_page}
 use Rattle.region.specs.State.{State, head_in, if_at, head_taken, take_head, TakeOk, split, SplitOk}
 use Rattle.region.specs.Steps.{lowest_from, split_down, DownOk}
-use Rattle.region.specs.declared.lists.Found.TheVariants.{At}
 
 pub lowest_step :
     (o : ℕ) (heads : List ℕ) →
     o < 6 →
-    lowest_from (6 - o) o heads ≡ cond (eqb (get_or heads o 0) no_page) (lowest_from (6 - (o + 1)) (o + 1) heads) (At o)
+    lowest_from (6 - o) o heads ≡ cond (eqb (get_or heads o 0) no_page) (lowest_from (6 - (o + 1)) (o + 1) heads) (Some o)
 unfolding lowest_from
 lowest_step o heads h = let e : 6 - o ≡ suc (6 - (o + 1)) = omega arith in rw (e, add-one o)
 
@@ -27,13 +26,13 @@ module _ (o j : ℕ) (s : State) (h : o < j) where
   pub ok_step :
       DownOk o (j - o) s →
       TakeOk j s
-      × ((p : ℕ) → head_taken j s ≡ At p →
+      × ((p : ℕ) → head_taken j s ≡ Some p →
       SplitOk p j (take_head j s) × DownOk o (j - 1 - o) (split p (j - 1) (take_head j s)))
   unfolding DownOk
   ok_step d = rw (less.0, less.1, less.2) at d
 
 -- a page that is taken off a list has a word
-pub taken-inside : {o p : ℕ} {s : State} → TakeOk o s → head_taken o s ≡ At p → p < length s.ws
+pub taken-inside : {o p : ℕ} {s : State} → TakeOk o s → head_taken o s ≡ Some p → p < length s.ws
 unfolding head_taken
 taken-inside {o} {p} {s} ok e =
     by-test (eqb (head_in s o) no_page)

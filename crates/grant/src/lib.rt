@@ -8,28 +8,27 @@ ghost use Rattle.region.specs.Steps.{lowest_from, SplitDownOk, split_down, Refil
 
 use pages::write_page_info;
 use region::HeapMemoryRegion;
-use region::lists::Found;
 use words::word::{MAX_ORDER, NO_PAGE, PageInfo};
 
 // The record, and the page granted.
 #[derive(Clone, Copy)]
 pub struct Granted {
     pub region: HeapMemoryRegion,
-    pub page: Found,
+    pub page: Option<usize>,
 }
 
 // The lowest order from `order` on whose list is not empty.
-pub fn find_order(heads: [usize; 6], order: usize) -> Found
+pub fn find_order(heads: [usize; 6], order: usize) -> Option<usize>
     requires { order ≤ 6 }
     ensures { result ≡ lowest_from (6 - order) order heads }
 {
     let mut ord = order;
     let found = loop {
         if MAX_ORDER <= ord {
-            break Found::Nothing;
+            break None;
         }
         if heads[ord] != NO_PAGE {
-            break Found::At(ord);
+            break Some(ord);
         }
         ord += 1;
     };
@@ -52,7 +51,7 @@ pub fn split_down(
         let taken = rest.get_next_page(words, ord);
         rest = taken.region;
         let head = taken.head;
-        let Found::At(pfn) = head else {
+        let Some(pfn) = head else {
             return rest;
         };
         rest = rest.split_page(words, pfn, ord);
@@ -75,7 +74,7 @@ pub fn refill_page_list(
         return region;
     }
     let found = find_order(heads, order + 1);
-    let Found::At(from) = found else {
+    let Some(from) = found else {
         return region;
     };
     split_down(region, words, from, order)
@@ -96,7 +95,7 @@ pub fn allocate_pages_info(
     let taken = filled.get_next_page(words, order);
     let rest = taken.region;
     let head = taken.head;
-    if let Found::At(pfn) = head {
+    if let Some(pfn) = head {
         write_page_info(words, pfn, info);
     }
     Granted {

@@ -4,24 +4,24 @@ ghost use Rattle.words.specs.Word.{decode_of, encode_of};
 ghost use Rattle.words.specs.Order.{order_of};
 ghost use Rattle.words.specs.RawFields.{encode_fields};
 
-use words::word::{Decoded, Encoded, PageInfo, PageStorageType};
+use words::word::{PageInfo, PageStorageType};
 
 // What a page's word says.
-pub fn decode(word: u64) -> Decoded
+pub fn decode(word: u64) -> Option<PageInfo>
     ensures { result ≡ decode_of word }
 {
     PageStorageType::decode(PageStorageType(word))
 }
 
 // The word of raw fields.
-pub fn encode(info: PageInfo) -> Encoded
+pub fn encode(info: PageInfo) -> Option<PageStorageType>
     ensures { result ≡ encode_of info }
 {
     PageStorageType::encode(info)
 }
 
 // The word of raw fields as numbers, by the type's number. A field that the type does not have must be 0.
-pub fn encode_fields(kind: u64, field: u64, next: u64) -> Encoded
+pub fn encode_fields(kind: u64, field: u64, next: u64) -> Option<PageStorageType>
     ensures { result ≡ encode_fields kind field next }
 {
     words::raw::encode_fields(kind, field, next)

@@ -1,12 +1,10 @@
 -- What a public call does on sound record and words: nothing, and nothing is written down; or one call of the model, and what is written down
 -- is what the model writes, with addresses for pages.
-use Rattle.common.specs.Kit.{ℕ, ◌+◌, ◌*◌, ◌≤◌, ◌≡◌, refl, ap, subst, ◌≢◌, Bool, true, List, [], map, eqb, arith, ne_eqb}
+use Rattle.common.specs.Kit.{ℕ, ◌+◌, ◌*◌, ◌≤◌, ◌≡◌, refl, ap, subst, ◌≢◌, Bool, true, List, [], map, eqb, arith, ne_eqb, Option, Some, None}
 use Rattle.common.proofs.Tests.{by-test}
 use Rattle.words.specs.declared.place.PageAt.{PageAt}
 use Rattle.words.specs.declared.place.PageAt.TheVariants.{Start, Within}
 use Rattle.words.specs.declared.word.PageInfo.TheVariants.{Free, Allocated, Slab, Compound, File, Reserved}
-use Rattle.words.specs.declared.word.Decoded.{Decoded}
-use Rattle.words.specs.declared.word.Decoded.TheVariants.{Info}
 use Rattle.words.proofs.PlaceLaws.{starts}
 use Rattle.words.proofs.PlaceLaws as Place
 use Rattle.buddy.specs.Heap.{Kind, Heap}
@@ -32,6 +30,7 @@ use Rattle.sound_calls.proofs.Outcomes.{outcomes}
 use Rattle.heap.specs.Promise.{promise, lookup_promise, report_promise, audit_promise}
 use Rattle.history.specs.Calls.{Call, request, lookup, report, audit, called, written, noted}
 use Rattle.history.proofs.Renamed.{renamed}
+use Rattle.words.specs.declared.word.PageInfo.{PageInfo}
 
 -- the address of page p
 abbrev pub address_in : HeapMemoryRegion → ℕ → ℕ
@@ -95,14 +94,14 @@ refuses-number (item _ _ _ _) = omega arith
 unwritten : (x : Request) (t : Answer) → t.number ≢ 0 → written x t ≡ []
 unwritten x t n = rw (ne_eqb t.number 0 n)
 
-layout-told : (a : ℕ) (d : Decoded) → (layout_of a d).number ≢ 4
-layout-told a (Info (Free fi)) = omega arith
-layout-told a (Info (Allocated ai)) = omega arith
-layout-told a (Info (Slab si)) = omega arith
-layout-told a (Info (Compound ci)) = omega arith
-layout-told a (Info (File fi)) = omega arith
-layout-told a (Info (Reserved ri)) = omega arith
-layout-told a Decoded.No = omega arith
+layout-told : (a : ℕ) (d : Option PageInfo) → (layout_of a d).number ≢ 4
+layout-told a (Some (Free fi)) = omega arith
+layout-told a (Some (Allocated ai)) = omega arith
+layout-told a (Some (Slab si)) = omega arith
+layout-told a (Some (Compound ci)) = omega arith
+layout-told a (Some (File fi)) = omega arith
+layout-told a (Some (Reserved ri)) = omega arith
+layout-told a None = omega arith
 
 -- what a call answers and leaves
 pub data Follows (r : HeapMemoryRegion) (ws : List ℕ) (c : Call) : Result → Type 0 where

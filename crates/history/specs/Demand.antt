@@ -1,8 +1,7 @@
 -- The customer's demand 3, of the public calls, at one moment of a history.
-use Rattle.std.specs.Prelude.{ℕ, ◌+◌, ◌-◌, ◌*◌, ◌≤◌, ◌<◌, ◌≡◌, ◌≢◌, ◌↔◌, ◌⊎◌, [], ◌∷◌, T, get_or}
+use Rattle.std.specs.Prelude.{ℕ, ◌+◌, ◌-◌, ◌*◌, ◌≤◌, ◌<◌, ◌≡◌, ◌≢◌, ◌↔◌, ◌⊎◌, [], ◌∷◌, T, get_or, Some}
 use Rattle.common.specs.Kit.{Memᴰ}
 use Rattle.common.specs.Numbers.{Once, count}
-use Rattle.words.specs.declared.word.Decoded.TheVariants.{Info}
 use Rattle.buddy.specs.Runs.{cell, first, Head, buddy}
 use Rattle.buddy.specs.Heap.{file}
 use Rattle.buddy.specs.Request.{Request, on, to_free, to_get, to_put, Asks}
@@ -49,7 +48,7 @@ module _ (m : Moment) where
   pub record FileCount (p : ℕ) : Type 0 where
     pub count : ℕ
     pub some : 1 ≤ count
-    pub word : said m.words p ≡ Info (file_info count)
+    pub word : said m.words p ≡ Some (file_info count)
     pub since : count + puts m.log (address_of p) ≡ 1 + gets m.log (address_of p)
     pub get : count < max_count → answered (on to_get (address_of p)) ≡ ok ((count + 1) ∷ [])
     pub full : max_count ≤ count → answered (on to_get (address_of p)) ≡ no 11 (address_of p ∷ [])

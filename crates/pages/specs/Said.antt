@@ -1,13 +1,11 @@
 -- What the words say, page by page.
-use Rattle.std.specs.Prelude.{ℕ, List, get_or}
+use Rattle.std.specs.Prelude.{ℕ, List, get_or, Option, Some, None}
 use Rattle.words.specs.Word.{decode_of, no_page}
 use Rattle.words.specs.declared.word.PageInfo.{PageInfo}
 use Rattle.words.specs.declared.word.PageInfo.TheVariants.{Free, Allocated, Slab, Compound, File, Reserved}
-use Rattle.words.specs.declared.word.Decoded.{Decoded}
-use Rattle.words.specs.declared.word.Decoded.TheVariants.{Info}
 
 -- what the word of page p says
-abbrev pub said : List ℕ → ℕ → Decoded
+abbrev pub said : List ℕ → ℕ → Option PageInfo
 said ws p = decode_of (get_or ws p 0)
 
 -- the page after a Free page on its list; none after any other
@@ -19,6 +17,6 @@ next_of (Compound i) = no_page
 next_of (File i) = no_page
 next_of (Reserved i) = no_page
 
-abbrev pub next_in : Decoded → ℕ
-next_in (Info i) = next_of i
-next_in Decoded.No = no_page
+abbrev pub next_in : Option PageInfo → ℕ
+next_in (Some i) = next_of i
+next_in None = no_page

@@ -8,10 +8,10 @@ ghost use Rattle.buddy.specs.Heap.{good_item};
 ghost use Rattle.pages.specs.Said.{said, next_in};
 ghost use Rattle.pages.specs.Fill.{BlockIn, fill, mark, init};
 
-use words::word::{CompoundInfo, Decoded, FreeInfo, NO_PAGE, PageInfo, PageStorageType};
+use words::word::{CompoundInfo, FreeInfo, NO_PAGE, PageInfo, PageStorageType};
 
 // What the word of a page says.
-pub fn read_page_info(words: &[u64], pfn: usize) -> Decoded
+pub fn read_page_info(words: &[u64], pfn: usize) -> Option<PageInfo>
     requires { pfn < length words.now }
     ensures { result ≡ said words.now pfn }
 {
@@ -32,24 +32,17 @@ pub fn next_free_pfn(words: &[u64], pfn: usize) -> usize
     requires { pfn < length words.now }
     ensures { result ≡ next_in (said words.now pfn) }
 {
-    let Decoded::Info(info) = read_page_info(words, pfn) else {
-        return NO_PAGE;
-    };
-    let PageInfo::Free(fi) = info else {
-        return NO_PAGE;
-    };
-    fi.next_page
+    match read_page_info(words, pfn) {
+        Some(PageInfo::Free(fi)) => fi.next_page,
+        _ => NO_PAGE,
+    }
 }
 
 // Whether a slab page may have items of this size.
 pub fn good_item(item_size: u64) -> bool
     ensures { result ≡ good_item item_size }
 {
-    if item_size == 0 {
-        false
-    } else {
-        item_size <= PageStorageType::SLAB_MASK
-    }
+    1 <= item_size && item_size <= PageStorageType::SLAB_MASK
 }
 
 // The pages of a block.
@@ -65,12 +58,7 @@ pub fn fill_words(words: &mut [u64], from: usize, count: usize, info: PageInfo)
     requires { from + count ≤ length words.old }
     ensures { words.new ≡ fill from (mem_of info) count words.old }
 {
-    let word = PageStorageType::to_mem(info).0;
-    let mut i = 0;
-    while i < count {
-        words[from + i] = word;
-        i += 1;
-    }
+    words[from..from + count].fill(PageStorageType::to_mem(info).0);
 }
 
 // Marks the pages of a block after its first as Compound.

@@ -1,12 +1,11 @@
 -- The page before a page on a list: a walk along the next fields finds it, and taking the page out changes what follows it alone.
-use Rattle.common.specs.Kit.{ℕ, ◌<◌, ◌≡◌, refl, sym, ◌∙◌, ◌≢◌, ⊎_elim, by_cases, List, [], ◌∷◌, Memᴰ, mem-head, mem-tail, mem-cases, mem-not_nil, length, ℕ_discrete, eq-eqb, ne_eqb}
+use Rattle.common.specs.Kit.{ℕ, ◌<◌, ◌≡◌, refl, sym, ◌∙◌, ◌≢◌, ⊎_elim, by_cases, List, [], ◌∷◌, Memᴰ, mem-head, mem-tail, mem-cases, mem-not_nil, length, ℕ_discrete, eq-eqb, ne_eqb, Some}
 use Rattle.common.specs.Numbers.{remove, Once}
 use Rattle.common.proofs.Lists.{remove-same, remove-other}
 use Rattle.words.specs.Word.{no_page}
 use Rattle.pages.specs.Said.{said, next_in}
 use Rattle.region.specs.State.{page_before, WalkOk}
 use Rattle.refine.specs.Image.{head_or, next_after}
-use Rattle.region.specs.declared.lists.Found.TheVariants.{At}
 use Rattle.refine.proofs.Links.{after_same, after-other, Links}
 
 -- page b stands before page p on the list
@@ -45,7 +44,7 @@ before-later p x y l b n d once w = record {
 -- the walk from the head of the list finds the page before p
 pub record Walked (ws : List ℕ) (p : ℕ) (l : List ℕ) : Type 0 where
   pub page : ℕ
-  pub found : page_before (length l) (head_or l) p ws ≡ At page
+  pub found : page_before (length l) (head_or l) p ws ≡ Some page
   pub ok : WalkOk (length l) (head_or l) p ws
   pub before : Before p l page
 

@@ -1,5 +1,5 @@
 -- Rule 4 on record and words is rule 4 on the heap: the list asked for is refilled, its head is granted, and its word is written last.
-use Rattle.common.specs.Kit.{ℕ, ◌≤◌, ◌≡◌, refl, sym, ◌∙◌, subst, ◌≢◌, Bool, [], mem-head, arith}
+use Rattle.common.specs.Kit.{ℕ, ◌≤◌, ◌≡◌, refl, sym, ◌∙◌, subst, ◌≢◌, Bool, [], mem-head, arith, Some, None}
 use Rattle.words.specs.declared.word.PageInfo.{PageInfo}
 use Rattle.buddy.specs.Runs.{cell, first}
 use Rattle.buddy.specs.Heap.{Kind, free, used, Heap}
@@ -12,7 +12,6 @@ use Rattle.region.specs.Layout.{end_of}
 use Rattle.region.specs.Steps.{write, refill as refill_state, RefillOk, grant_page, grant, GrantOk}
 use Rattle.refine.specs.Image.{head_info, image}
 use Rattle.region.specs.declared.HeapMemoryRegion.{HeapMemoryRegion}
-use Rattle.region.specs.declared.lists.Found.TheVariants.{At, Nothing}
 use Rattle.refine.specs.Fit.{Fits, SoundFit}
 use Rattle.refine.proofs.Step.{Lent, Step}
 use Rattle.refine.proofs.Listed.{list-free}
@@ -23,13 +22,13 @@ use Rattle.refine.proofs.Refill.{Fills, refill-none, refill-image}
 -- the request is refused, and nothing changes
 pub record Denied (r : HeapMemoryRegion) (h : Heap) (o : ℕ) : Type 0 where
   pub ok : GrantOk o (image r h)
-  pub answers : grant_page o (image r h) ≡ Nothing
+  pub answers : grant_page o (image r h) ≡ None
   pub leaves : (i : PageInfo) → grant o i (image r h) ≡ image r h
 
 -- the block c is granted, out as an ordinary one; with the word of another kind it is labelled so
 pub record Granted (M : ℕ → Bool) (r : HeapMemoryRegion) (h : Heap) (o : ℕ) (g : Heap) (c : ℕ) : Type 0 where
   pub ok : GrantOk o (image r h)
-  pub answers : grant_page o (image r h) ≡ At (first o c)
+  pub answers : grant_page o (image r h) ≡ Some (first o c)
   pub leaves : grant o (allocated_info o) (image r h) ≡ image r g
   pub labels : (k : Kind) → k ≢ free → (next : ℕ) → grant o (head_info k o next) (image r h) ≡ image r (label g o c k)
   pub hand : InHand M g.at o c
@@ -42,7 +41,7 @@ Grants M r h o (granted g c) = Granted M r h o g c
 -- the way there, which needs no soundness
 record Given (M : ℕ → Bool) (r : HeapMemoryRegion) (h : Heap) (o : ℕ) (g : Heap) (c : ℕ) : Type 0 where
   ok : GrantOk o (image r h)
-  answers : grant_page o (image r h) ≡ At (first o c)
+  answers : grant_page o (image r h) ≡ Some (first o c)
   writes : (i : PageInfo) → grant o i (image r h) ≡ write (first o c) i (image r g)
   fits : Fits M r g
 
@@ -62,7 +61,7 @@ module _ {M : ℕ → Bool} {r : HeapMemoryRegion} {h : Heap} (f : Fits M r h) (
       s : Step M r (RefillOk o (image r h)) (refill_state o (image r h)) h
       s = refill-none f lent o valid empty
 
-      t : Takes M r h o Nothing h
+      t : Takes M r h o None h
       t = take_none f lent o valid (empty o (omega arith) valid)
 
   module _ {g : Heap} (s : Fills M r o (RefillOk o (image r h)) (refill_state o (image r h)) g) where
@@ -81,7 +80,7 @@ module _ {M : ℕ → Bool} {r : HeapMemoryRegion} {h : Heap} (f : Fits M r h) (
       fits = t.fits;
     }
       where
-        t : Takes M r g o (At s.head) (take g o c)
+        t : Takes M r g o (Some s.head) (take g o c)
         t = take-image s.step.fits lent o valid s.head s.rest s.is
 
     granted-head : grant_head g o ≡ granted (take g o c) c

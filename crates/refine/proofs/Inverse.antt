@@ -1,9 +1,8 @@
 -- Sound records and words of the code's types, and heaps that fit the region and are sound, are one and the same thing: reading and writing
 -- undo each other. These are results.
-use Rattle.common.specs.Kit.{ℕ, ◌^◌, ◌≡◌, refl, sym, ap, ◌∙◌, subst, Bool, true, List, T, get_or, get_or-eq_default, arith, le-ltb, ltb-true}
+use Rattle.common.specs.Kit.{ℕ, ◌^◌, ◌≡◌, refl, sym, ap, ◌∙◌, subst, Bool, true, List, T, get_or, get_or-eq_default, arith, le-ltb, ltb-true, Some}
 use Rattle.common.proofs.Tests.{T_false}
 use Rattle.words.specs.Word.{in_table}
-use Rattle.words.specs.declared.word.Decoded.TheVariants.{Info}
 use Rattle.words.proofs.Fields.{word_fits}
 use Rattle.words.proofs.Laws.{mem_word}
 use Rattle.buddy.specs.Runs.{start}
@@ -58,9 +57,9 @@ module _ (r : HeapMemoryRegion) (ws : List ℕ) (h : Heap) (lent : Lent r) (fits
     limits = rw (words_long r h) lent;
     boot = record {
       each = λ p _ l. words-say fits lent p (omega (arith, lent.boot))
-          ∙ ap Info (off-shown fits p (boot-not-managed r ws p l) (omega (arith, lent.boot)));
+          ∙ ap Some (off-shown fits p (boot-not-managed r ws p l) (omega (arith, lent.boot)));
     };
-    metadata = record { each = λ p e l. words-say fits lent p l ∙ ap Info (shown-meta (end_of r) h p e) };
+    metadata = record { each = λ p e l. words-say fits lent p l ∙ ap Some (shown-meta (end_of r) h p e) };
     words = λ p m. (image-says fits lent).each p (subst (λ (M : ℕ → Bool). T (M p)) (managed-image r h ws) m);
     totals = λ o l. blocks-image r h o (omega arith);
     frees = λ o l. frees-image r h o (omega arith);

@@ -1,10 +1,8 @@
 -- The law of soundness: record and words are sound exactly when they show a sound heap. It holds of any record and any list of numbers; the heap
 -- is the one that `heap_of` reads. The laws at the end are results.
-use Rattle.common.specs.Kit.{ℕ, ◌<◌, ◌≡◌, refl, sym, ap, ◌∙◌, ◌≢◌, ◌↔◌, List, T, length, get_or, arith, lt-ltb}
+use Rattle.common.specs.Kit.{ℕ, ◌<◌, ◌≡◌, refl, sym, ap, ◌∙◌, ◌≢◌, ◌↔◌, List, T, length, get_or, arith, lt-ltb, Some, None}
 use Rattle.common.proofs.Tests.{T_true}
 use Rattle.words.specs.declared.word.PageInfo.{PageInfo}
-use Rattle.words.specs.declared.word.Decoded.{Decoded}
-use Rattle.words.specs.declared.word.Decoded.TheVariants.{Info}
 use Rattle.buddy.specs.Heap.{Tiled, Heap}
 use Rattle.pages.specs.Said.{said}
 use Rattle.region.specs.Layout.{end_of, managed}
@@ -87,9 +85,9 @@ pub sound-law : (r : HeapMemoryRegion) (ws : List ℕ) → Sound r ws ↔ ((h : 
 sound-law r ws = ((λ s. (heap_of r ws, read-sound r ws s, read-shows r ws s)), λ x. shows-sound r ws x.0 x.1 x.2)
 
 -- what a page of a region says that shows a heap
-shows-info : {r : HeapMemoryRegion} {ws : List ℕ} {h : Heap} → Shows r ws h → (p : ℕ) → p < r.page_count → (i : PageInfo) × (said ws p ≡ Info i)
+shows-info : {r : HeapMemoryRegion} {ws : List ℕ} {h : Heap} → Shows r ws h → (p : ℕ) → p < r.page_count → (i : PageInfo) × (said ws p ≡ Some i)
 shows-info {r} {ws} k p l = by-page r ws p (λ b. (_, k.boot.each p (omega arith) b)) (λ m. (_, k.words p m)) (λ e. (_, k.metadata.each p e l))
 
 -- so every word of a sound region decodes
-pub sound-decodes : (r : HeapMemoryRegion) (ws : List ℕ) → Sound r ws → (p : ℕ) → p < r.page_count → said ws p ≢ Decoded.No
+pub sound-decodes : (r : HeapMemoryRegion) (ws : List ℕ) → Sound r ws → (p : ℕ) → p < r.page_count → said ws p ≢ None
 sound-decodes r ws s p l e = let k = (shows-info (read-shows r ws s) p l).1 in let z : ◌≡◌ {A = ℕ} 0 1 = cc in omega arith

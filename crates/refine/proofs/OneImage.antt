@@ -1,10 +1,9 @@
 -- A heap with its place fixes the record and every word that show it, if the arrays are of six and the words of 64 bits: one meaning has one
 -- word, and a list is fixed by its values. This is a result.
-use Rattle.common.specs.Kit.{ℕ, ◌^◌, ◌<◌, ◌≡◌, sym, ◌∙◌, subst, Bool, true, List, T, length, get_or, ext_get_or, arith}
+use Rattle.common.specs.Kit.{ℕ, ◌^◌, ◌<◌, ◌≡◌, sym, ◌∙◌, subst, Bool, true, List, T, length, get_or, ext_get_or, arith, Some}
 use Rattle.common.proofs.Tests.{by-test}
 use Rattle.words.specs.Word.{decode_of, in_table, word_of, encode_of, mem_of}
 use Rattle.words.specs.declared.word.PageInfo.{PageInfo}
-use Rattle.words.specs.declared.word.Decoded.TheVariants.{Info}
 use Rattle.words.proofs.Fields.{word_fits}
 use Rattle.words.proofs.Laws.{decode-word, mem_word, one_word, encode-no}
 use Rattle.buddy.specs.Heap.{Heap}
@@ -15,7 +14,7 @@ use Rattle.refine.specs.Image.{Shows, Typed}
 use Rattle.refine.proofs.Managed.{managed-place, by-page}
 
 -- what a word of 64 bits says is in the table, and has no other word
-module _ (w : ℕ) (i : PageInfo) (bits : w < 2 ^ 64) (says : decode_of w ≡ Info i) where
+module _ (w : ℕ) (i : PageInfo) (bits : w < 2 ^ 64) (says : decode_of w ≡ Some i) where
   pub said_in : in_table i ≡ true
   unfolding encode_of
   said_in = by-test (in_table i) (λ t. t) (λ t. absurd ((encode-no i).0 (rw t) w bits says))
@@ -52,7 +51,7 @@ one-image r s ws vs h t u k j a b c = λ i. st (region i) (words i)
         (λ o l. k.frees o (omega arith) ∙ sym (j.frees o (omega arith)))
         (λ o l. k.heads o (omega arith) ∙ sym (j.heads o (omega arith)))
 
-    same : (p : ℕ) (i : PageInfo) → p < length ws → said ws p ≡ Info i → said vs p ≡ Info i → get_or ws p 0 ≡ get_or vs p 0
+    same : (p : ℕ) (i : PageInfo) → p < length ws → said ws p ≡ Some i → said vs p ≡ Some i → get_or ws p 0 ≡ get_or vs p 0
     same p i l x y =
         said-mem (get_or ws p 0) i (t.bits p l) x ∙ sym (said-mem (get_or vs p 0) i (u.bits p (omega (arith, k.limits.long, j.limits.long))) y)
 

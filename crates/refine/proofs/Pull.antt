@@ -1,5 +1,5 @@
 -- To take a named page out of its list is to take its block: the head as such, a later page by the page before it.
-use Rattle.common.specs.Kit.{ℕ, ◌≤◌, ◌<◌, ◌≡◌, refl, sym, ap, ◌∙◌, ◌≢◌, by_cases, Bool, true, List, [], ◌∷◌, Memᴰ, mem-head, mem-not_nil, length, set, ℕ_discrete, arith, eq-eqb, ne_eqb}
+use Rattle.common.specs.Kit.{ℕ, ◌≤◌, ◌<◌, ◌≡◌, refl, sym, ap, ◌∙◌, ◌≢◌, by_cases, Bool, true, List, [], ◌∷◌, Memᴰ, mem-head, mem-not_nil, length, set, ℕ_discrete, arith, eq-eqb, ne_eqb, Some}
 use lib.Seq.{set_comm}
 use Rattle.common.specs.Numbers.{remove}
 use Rattle.common.proofs.Lists.{update_same, update_other, remove-other}
@@ -15,7 +15,6 @@ use Rattle.pages.specs.Said.{said, next_in}
 use Rattle.region.specs.State.{head_in, before, cut, pull, pulls, PullOk}
 use Rattle.refine.specs.Image.{head_or, next_after, words_of, image}
 use Rattle.region.specs.declared.HeapMemoryRegion.{HeapMemoryRegion}
-use Rattle.region.specs.declared.lists.Found.TheVariants.{At}
 use Rattle.refine.specs.Fit.{Fits}
 use Rattle.refine.proofs.Shown.{words_long}
 use Rattle.refine.proofs.WordsSay.{image-says, says-free}
@@ -57,7 +56,7 @@ module _ {M : ℕ → Bool} {r : HeapMemoryRegion} {h : Heap} (f : Fits M r h) (
       fits = take-fits f b;
     }
       where
-        t : Takes M r h o (At x) (take h o (cell o x))
+        t : Takes M r h o (Some x) (take h o (cell o x))
         t = take-image f lent o valid x xs e
 
     module _ (n : x ≢ p) where
@@ -78,7 +77,7 @@ module _ {M : ℕ → Bool} {r : HeapMemoryRegion} {h : Heap} (f : Fits M r h) (
       next-p : next_in (said (words_of r h) p) ≡ next_after p (h.list o)
       next-p = ap next_in (says-free (image-says f lent) (list-free f o p valid (free-listed f b)))
 
-      found : before p o (image r h) ≡ At q
+      found : before p o (image r h) ≡ Some q
       found = rw (frees-image r h o (omega (arith, valid)), head-image r h o (omega (arith, valid))) w.found
 
       head-stays : head_in (image r h) o ≡ head_or (remove p (h.list o))

@@ -1,7 +1,6 @@
 -- From tiled words to a tiled heap: all pages of a block tell one tag, so the tags that the words tell are tiled, and a heap with these tags
 -- and with lists that have the next fields says what the words say.
-use Rattle.common.specs.Kit.{ℕ, ◌+◌, ◌^◌, ◌≤◌, ◌<◌, ◌≡◌, sym, ap, ◌∙◌, ◌≢◌, by_cases, Bool, List, T, pow_pos, ℕ_discrete, arith}
-use Rattle.words.specs.declared.word.Decoded.TheVariants.{Info}
+use Rattle.common.specs.Kit.{ℕ, ◌+◌, ◌^◌, ◌≤◌, ◌<◌, ◌≡◌, sym, ap, ◌∙◌, ◌≢◌, by_cases, Bool, List, T, pow_pos, ℕ_discrete, arith, Some}
 use Rattle.buddy.specs.Runs.{cell, first, start, Head}
 use Rattle.buddy.specs.Heap.{Kind, free, Tag, tag, Heap}
 use Rattle.buddy.specs.Heap as Buddy
@@ -65,8 +64,8 @@ module _ {M : ℕ → Bool} {ws : List ℕ} where
 
   module _ (h : Heap) (tags : (p : ℕ) → T (M p) → h.at p ≡ tag_said ws p)
       (next : (o p : ℕ) → o < 6 → FreeBlock ws M o p → next_in (said ws p) ≡ next_after p (h.list o)) where
-    head-says : {s o : ℕ} → Block ws M s o → said ws s ≡ Info (entry h s)
-    head-says {s} {o} b = (head-word b).is ∙ ap Info (head-same k o _ _ links ∙ sym (rw mine at (entry-head h s (rw mine (head_at b)))))
+    head-says : {s o : ℕ} → Block ws M s o → said ws s ≡ Some (entry h s)
+    head-says {s} {o} b = (head-word b).is ∙ ap Some (head-same k o _ _ links ∙ sym (rw mine at (entry-head h s (rw mine (head_at b)))))
       where
         k : Kind
         k = (head-word b).kind
@@ -77,11 +76,11 @@ module _ {M : ℕ → Bool} {ws : List ℕ} where
         links : k ≡ free → next_in (said ws s) ≡ next_after s (h.list o)
         links d = next o s b.small (record {
           managed = b.inside s (omega arith) (omega (arith, pow_pos o));
-          is = ap free_order (head-word b).is ∙ ap (λ j. free_order (Info (head_info j o (next_in (said ws s))))) d;
+          is = ap free_order (head-word b).is ∙ ap (λ j. free_order (Some (head_info j o (next_in (said ws s))))) d;
         })
 
-    tail-says : {s o : ℕ} → Block ws M s o → (q : ℕ) → s < q → q < s + 2 ^ o → said ws q ≡ Info (entry h q)
-    tail-says {s} {o} b q x y = b.rest.each q (omega arith) y ∙ ap Info (sym (rw mine at (entry-tail h q (rw mine inner))))
+    tail-says : {s o : ℕ} → Block ws M s o → (q : ℕ) → s < q → q < s + 2 ^ o → said ws q ≡ Some (entry h q)
+    tail-says {s} {o} b q x y = b.rest.each q (omega arith) y ∙ ap Some (sym (rw mine at (entry-tail h q (rw mine inner))))
       where
         inner : start o q ≢ q
         inner d = omega (arith, start-at b q (omega arith) y)

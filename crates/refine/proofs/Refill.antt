@@ -1,5 +1,5 @@
 -- Rule 4's refill on record and words is the heap's: the same list is the lowest that is not empty, and its head is split down alike.
-use Rattle.common.specs.Kit.{ℕ, zero, suc, ◌+◌, ◌-◌, ◌≤◌, ◌<◌, ◌≡◌, refl, ◌∙◌, Bool, List, [], ◌∷◌, mem-head, zero-add, suc-add, arith, eq-eqb, ne_eqb}
+use Rattle.common.specs.Kit.{ℕ, zero, suc, ◌+◌, ◌-◌, ◌≤◌, ◌<◌, ◌≡◌, refl, ◌∙◌, Bool, List, [], ◌∷◌, mem-head, zero-add, suc-add, arith, eq-eqb, ne_eqb, Some, None}
 use Rattle.words.specs.Word.{no_page}
 use Rattle.buddy.specs.Runs.{cell}
 use Rattle.buddy.specs.Heap.{Heap}
@@ -11,7 +11,6 @@ use Rattle.region.specs.State.{State, head_in, split as split_state, SplitOk}
 use Rattle.region.specs.Steps.{lowest_from, split_down, DownOk, refill as refill_state, RefillOk}
 use Rattle.refine.specs.Image.{region_of, image}
 use Rattle.region.specs.declared.HeapMemoryRegion.{HeapMemoryRegion}
-use Rattle.region.specs.declared.lists.Found.TheVariants.{At, Nothing}
 use Rattle.refine.specs.Fit.{Fits}
 use Rattle.refine.proofs.Record.{head-image}
 use Rattle.refine.proofs.Step.{Lent, Step}
@@ -43,14 +42,14 @@ module _ {M : ℕ → Bool} {r : HeapMemoryRegion} {h : Heap} (f : Fits M r h) (
 
   -- the lowest list that is not empty: none of `left` orders from j on, or list k + j
   pub lowest-none : (left j : ℕ) → j + left ≤ 6 → ((i : ℕ) → j ≤ i → i < j + left → h.list i ≡ [])
-      → lowest_from left j (region_of r h).next_page ≡ Nothing
+      → lowest_from left j (region_of r h).next_page ≡ None
   unfolding lowest_from
   lowest-none zero j l empty = refl
   lowest-none (suc left) j l empty = rw (eq-eqb _ _ (empty-head j (omega arith) (empty j (omega arith) (omega arith))))
       (lowest-none left (suc j) (omega arith) (λ i a b. empty i (omega arith) (omega arith)))
 
   pub lowest-at : (left k j p : ℕ) (ps : List ℕ) → j + left ≤ 6 → k < left → ((i : ℕ) → j ≤ i → i < k + j → h.list i ≡ [])
-      → h.list (k + j) ≡ p ∷ ps → lowest_from left j (region_of r h).next_page ≡ At (k + j)
+      → h.list (k + j) ≡ p ∷ ps → lowest_from left j (region_of r h).next_page ≡ Some (k + j)
   unfolding lowest_from
   lowest-at zero k j p ps l low empty is = absurd (omega arith)
   lowest-at (suc left) zero j p ps l low empty is =
@@ -64,7 +63,7 @@ module _ {M : ℕ → Bool} {r : HeapMemoryRegion} {h : Heap} (f : Fits M r h) (
 
   -- one turn: the head p of list k + o + 1 is taken and split
   module _ (o k p : ℕ) (ps : List ℕ) (valid : suc (k + o) ≤ 5) (e : h.list (suc (k + o)) ≡ p ∷ ps) where
-    turn-take : Takes M r h (suc (k + o)) (At p) (taken h (k + o) p)
+    turn-take : Takes M r h (suc (k + o)) (Some p) (taken h (k + o) p)
     turn-take = take-image f lent (suc (k + o)) valid p ps e
 
     turn-split : Step M r (SplitOk p (suc (k + o)) (image r (taken h (k + o) p))) (split_state p (k + o) (image r (taken h (k + o) p)))
@@ -118,7 +117,7 @@ module _ {M : ℕ → Bool} {r : HeapMemoryRegion} {h : Heap} (f : Fits M r h) (
     fits = f;
   }
     where
-      lowest : lowest_from (6 - o) o (region_of r h).next_page ≡ Nothing
+      lowest : lowest_from (6 - o) o (region_of r h).next_page ≡ None
       lowest = lowest-none f lent (6 - o) o (omega arith) (λ i a b. empty i a (omega arith))
 
   pub refill-image : (k p : ℕ) (ps : List ℕ) → k + o ≤ 5 → h.list (k + o) ≡ p ∷ ps → ((i : ℕ) → o ≤ i → i < k + o → h.list i ≡ [])
@@ -146,5 +145,5 @@ module _ {M : ℕ → Bool} {r : HeapMemoryRegion} {h : Heap} (f : Fits M r h) (
       back : k + o - o ≡ k
       back = omega arith
 
-      lowest : lowest_from (6 - o) o (region_of r h).next_page ≡ At (k + o)
+      lowest : lowest_from (6 - o) o (region_of r h).next_page ≡ Some (k + o)
       lowest = lowest-at f lent (6 - o) k o p ps (omega arith) (omega arith) empty e

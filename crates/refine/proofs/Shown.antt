@@ -1,9 +1,8 @@
 -- What is shown of a page: of one below the metadata pages and of one of them, of a block's head and of its other pages. The words of a heap that
 -- fits its region say it: its orders, kinds and next pages are all in the table of words.
-use Rattle.common.specs.Kit.{ℕ, ◌^◌, ◌≤◌, ◌<◌, ◌≡◌, ap, ◌∙◌, ◌≢◌, ◌⊎◌, ⊎_elim, by_cases, Bool, true, Memᴰ, T, leb, length, get_or, ℕ_discrete, dec_lt, arith, eq-eqb, ne_eqb, lt-ltb, le-ltb, leb-true}
+use Rattle.common.specs.Kit.{ℕ, ◌^◌, ◌≤◌, ◌<◌, ◌≡◌, ap, ◌∙◌, ◌≢◌, ◌⊎◌, ⊎_elim, by_cases, Bool, true, Memᴰ, T, leb, length, get_or, ℕ_discrete, dec_lt, arith, eq-eqb, ne_eqb, lt-ltb, le-ltb, leb-true, Some}
 use Rattle.common.proofs.Tests.{by-test, and-true}
 use Rattle.words.specs.Word.{no_page, no_next, has_field, in_table, decode_of, mem_of}
-use Rattle.words.specs.declared.word.Decoded.TheVariants.{Info}
 use Rattle.words.proofs.Laws.{decode-word, mem_word}
 use Rattle.buddy.specs.Runs.{start, Head}
 use Rattle.buddy.specs.Heap.{Kind, free, used, slab, file, tag, Heap}
@@ -96,5 +95,5 @@ module _ {M : ℕ → Bool} {r : HeapMemoryRegion} {h : Heap} (fits : Fits M r h
         (λ m. rw (off-shown p (λ t. rw m at t) y)))
         (λ y. rw (shown-meta (end_of r) h p (omega arith)))
 
-    pub words-say : (p : ℕ) → p < r.page_count → said (words_of r h) p ≡ Info (shown (end_of r) h p)
+    pub words-say : (p : ℕ) → p < r.page_count → said (words_of r h) p ≡ Some (shown (end_of r) h p)
     words-say p l = ap decode_of (word_at r h p l ∙ mem_word _ (shown-word p)) ∙ decode-word _ (shown-word p)

@@ -1,9 +1,8 @@
 -- A tiled heap over the pages M, and words that say what it says: each line of soundness holds of the words exactly when it holds of the heap,
 -- and the tiling holds of both.
-use Rattle.common.specs.Kit.{ℕ, suc, ◌+◌, ◌^◌, ◌≤◌, ◌<◌, ◌≡◌, sym, ap, ◌∙◌, ◌≢◌, by_cases, Bool, List, T, length, ℕ_discrete, arith}
+use Rattle.common.specs.Kit.{ℕ, suc, ◌+◌, ◌^◌, ◌≤◌, ◌<◌, ◌≡◌, sym, ap, ◌∙◌, ◌≢◌, by_cases, Bool, List, T, length, ℕ_discrete, arith, Some}
 use Rattle.common.specs.Numbers.{count}
 use Rattle.common.proofs.Counts.{count_same}
-use Rattle.words.specs.declared.word.Decoded.TheVariants.{Info}
 use Rattle.buddy.specs.Runs.{cell, first, start, buddy}
 use Rattle.buddy.specs.Heap.{free, tag, Block, Tiled, FreeHead, Listed, NoBuddies, heads, Heap}
 use Rattle.buddy.proofs.RunLaws.{cell-suc, cell-first, start-le, lt-end, cell-between, head-start, buddy-half, buddy-not, buddy-is}
@@ -55,7 +54,7 @@ module _ {M : ℕ → Bool} {ws : List ℕ} {h : Heap} (says : Says M ws h) (til
           b : Block M h.at q
           b = tiled q m
 
-          tail_at : (p : ℕ) → s + 1 ≤ p → p < s + 2 ^ o → said ws p ≡ Info (compound_info o)
+          tail_at : (p : ℕ) → s + 1 ≤ p → p < s + 2 ^ o → said ws p ≡ Some (compound_info o)
           tail_at p x y = rw same at (says-tail says p (b.inside p near) (rw same (λ k. omega (arith, ap (first o) near))))
             where
               near : cell o p ≡ cell o q

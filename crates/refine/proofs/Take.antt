@@ -1,5 +1,5 @@
 -- To take the head of a list off is to take its block; an empty list stays.
-use Rattle.common.specs.Kit.{ℕ, ◌≤◌, ◌≡◌, refl, sym, ◌∙◌, ◌≢◌, by_cases, Bool, List, [], ◌∷◌, Memᴰ, mem-head, set, ℕ_discrete, arith, eq-eqb, ne_eqb}
+use Rattle.common.specs.Kit.{ℕ, ◌≤◌, ◌≡◌, refl, sym, ◌∙◌, ◌≢◌, by_cases, Bool, List, [], ◌∷◌, Memᴰ, mem-head, set, ℕ_discrete, arith, eq-eqb, ne_eqb, Option, Some, None}
 use Rattle.common.specs.Numbers.{remove}
 use Rattle.common.proofs.Lists.{update_same, update_other, remove-same}
 use Rattle.words.specs.Word.{no_page, mem_of}
@@ -13,8 +13,6 @@ use Rattle.pages.specs.Said.{said, next_in}
 use Rattle.region.specs.State.{head_in, head_taken, take_head, TakeOk}
 use Rattle.refine.specs.Image.{head_or, words_of, image}
 use Rattle.region.specs.declared.HeapMemoryRegion.{HeapMemoryRegion}
-use Rattle.region.specs.declared.lists.Found.{Found}
-use Rattle.region.specs.declared.lists.Found.TheVariants.{At, Nothing}
 use Rattle.refine.specs.Fit.{Fits}
 use Rattle.refine.proofs.Links.{after-other}
 use Rattle.refine.proofs.Shown.{words_long}
@@ -24,11 +22,11 @@ use Rattle.refine.proofs.Step.{Lent, Call}
 use Rattle.refine.proofs.Listed.{list-links, list-free, list-below, list-some, take-region, take-fits}
 
 -- taking the head of list o off the image of h answers x and leaves the image of g
-abbrev pub Takes : (ℕ → Bool) → HeapMemoryRegion → Heap → ℕ → Found → Heap → Type 0
+abbrev pub Takes : (ℕ → Bool) → HeapMemoryRegion → Heap → ℕ → Option ℕ → Heap → Type 0
 Takes M r h o x g = Call M r (TakeOk o (image r h)) (head_taken o (image r h)) (take_head o (image r h)) x g
 
 module _ {M : ℕ → Bool} {r : HeapMemoryRegion} {h : Heap} (f : Fits M r h) (lent : Lent r) (o : ℕ) (valid : o ≤ 5) where
-  pub take_none : h.list o ≡ [] → Takes M r h o Nothing h
+  pub take_none : h.list o ≡ [] → Takes M r h o None h
   unfolding head_taken take_head
   take_none e = record {
     ok = record { order = omega arith; head = λ n. absurd (n none); some = λ n. absurd (n none) };
@@ -40,7 +38,7 @@ module _ {M : ℕ → Bool} {r : HeapMemoryRegion} {h : Heap} (f : Fits M r h) (
       none : head_in (image r h) o ≡ no_page
       none = head-image r h o (omega arith) ∙ rw e
 
-  head-taken : (c : ℕ) (ps : List ℕ) → h.list o ≡ first o c ∷ ps → Takes M r h o (At (first o c)) (take h o c)
+  head-taken : (c : ℕ) (ps : List ℕ) → h.list o ≡ first o c ∷ ps → Takes M r h o (Some (first o c)) (take h o c)
   unfolding head_taken take_head take
   head-taken c ps e = record {
     ok = record {
@@ -76,7 +74,7 @@ module _ {M : ℕ → Bool} {r : HeapMemoryRegion} {h : Heap} (f : Fits M r h) (
           (λ d. rw update_same (rw (d, e, remove-same p p ps refl) (sym (after-other q p ps (λ x. n (rw (← x) (cell-first o c)))))))
           (λ d. rw update_other))
 
-  pub take-image : (p : ℕ) (ps : List ℕ) → h.list o ≡ p ∷ ps → Takes M r h o (At p) (take h o (cell o p))
+  pub take-image : (p : ℕ) (ps : List ℕ) → h.list o ≡ p ∷ ps → Takes M r h o (Some p) (take h o (cell o p))
   take-image p ps e =
       let hd : first o (cell o p) ≡ p = (list-free f o p valid (rw e (mem-head refl))).head in
       rw hd at (head-taken (cell o p) ps (e ∙ rw hd))

@@ -1,8 +1,7 @@
 -- Words that say what a tiled heap says, page by page: its heads are the words that head a block, its free heads the Free words, and reading
 -- the words gives its tags and its lists back.
-use Rattle.common.specs.Kit.{ℕ, ◌<◌, ◌≡◌, refl, sym, ap, ◌∙◌, ◌≢◌, by_cases, Bool, ◌&&◌, List, T, eqb, length, ℕ_discrete, arith, eq-eqb, ne_eqb}
+use Rattle.common.specs.Kit.{ℕ, ◌<◌, ◌≡◌, refl, sym, ap, ◌∙◌, ◌≢◌, by_cases, Bool, ◌&&◌, List, T, eqb, length, ℕ_discrete, arith, eq-eqb, ne_eqb, Some}
 use Rattle.common.proofs.Tests.{by-test}
-use Rattle.words.specs.declared.word.Decoded.TheVariants.{Info}
 use Rattle.buddy.specs.Runs.{start, Head}
 use Rattle.buddy.specs.Heap.{Tiled, FreeHead, Listed, heads, Heap}
 use Rattle.buddy.proofs.RunLaws.{cell-start, head-start}
@@ -22,7 +21,7 @@ use Rattle.refine.proofs.Step.{Lent}
 
 -- the words of the pages of M say what heap h says of them
 pub record Says (M : ℕ → Bool) (ws : List ℕ) (h : Heap) : Type 0 where
-  pub each : (p : ℕ) → T (M p) → said ws p ≡ Info (entry h p)
+  pub each : (p : ℕ) → T (M p) → said ws p ≡ Some (entry h p)
 
 -- what record and words show, they say
 pub shows-say : {r : HeapMemoryRegion} {ws : List ℕ} {h : Heap} → Shows r ws h → Says (managed r ws) ws h
@@ -31,18 +30,18 @@ shows-say k = record { each = k.words }
 -- what a heap that fits shows, its words say
 pub image-says : {M : ℕ → Bool} {r : HeapMemoryRegion} {h : Heap} → Fits M r h → Lent r → Says M (words_of r h) h
 image-says {r = r} {h = h} f lent = record {
-  each = λ p m. let l = f.within p m in words-say f lent p (omega arith) ∙ ap Info (shown-in (end_of r) h p l);
+  each = λ p m. let l = f.within p m in words-say f lent p (omega arith) ∙ ap Some (shown-in (end_of r) h p l);
 }
 
 module _ {M : ℕ → Bool} {ws : List ℕ} {h : Heap} (says : Says M ws h) where
   pub says-head : (p : ℕ) → T (M p) → Head (h.at p).order p
-      → said ws p ≡ Info (head_info (h.at p).kind (h.at p).order (next_after p (h.list (h.at p).order)))
-  says-head p m e = says.each p m ∙ ap Info (entry-head h p e)
+      → said ws p ≡ Some (head_info (h.at p).kind (h.at p).order (next_after p (h.list (h.at p).order)))
+  says-head p m e = says.each p m ∙ ap Some (entry-head h p e)
 
-  pub says-tail : (p : ℕ) → T (M p) → start (h.at p).order p ≢ p → said ws p ≡ Info (compound_info (h.at p).order)
-  says-tail p m e = says.each p m ∙ ap Info (entry-tail h p e)
+  pub says-tail : (p : ℕ) → T (M p) → start (h.at p).order p ≢ p → said ws p ≡ Some (compound_info (h.at p).order)
+  says-tail p m e = says.each p m ∙ ap Some (entry-tail h p e)
 
-  pub says-free : {o p : ℕ} → FreeHead M h.at o p → said ws p ≡ Info (free_info o (next_after p (h.list o)))
+  pub says-free : {o p : ℕ} → FreeHead M h.at o p → said ws p ≡ Some (free_info o (next_after p (h.list o)))
   says-free {p = p} f = rw f.is at (says-head p f.managed (rw f.is f.head))
 
   pub links-list : (o : ℕ) → Listed M h.at o (h.list o) → Links (λ p. next_in (said ws p)) (h.list o)
@@ -55,7 +54,7 @@ module _ {M : ℕ → Bool} {ws : List ℕ} {h : Heap} (says : Says M ws h) wher
     -- the word at the start of the block around page p
     pub says_first : (p : ℕ) → T (M p)
         → said ws (start (h.at p).order p)
-        ≡ Info (head_info (h.at p).kind (h.at p).order (next_after (start (h.at p).order p) (h.list (h.at p).order)))
+        ≡ Some (head_info (h.at p).kind (h.at p).order (next_after (start (h.at p).order p) (h.list (h.at p).order)))
     says_first p m =
         let c = cell-start (h.at p).order p in
         let same : h.at (start (h.at p).order p) ≡ h.at p = (tiled p m).same _ c in

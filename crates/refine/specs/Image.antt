@@ -1,8 +1,7 @@
 -- The heap that record and words show, and the record and words that show a heap. All three are total and compute.
-use Rattle.std.specs.Prelude.{ℕ, zero, suc, ◌+◌, ◌^◌, ◌≤◌, ◌<◌, ◌≡◌, cond, List, [], ◌∷◌, eqb, ltb, length, get_or, T}
+use Rattle.std.specs.Prelude.{ℕ, zero, suc, ◌+◌, ◌^◌, ◌≤◌, ◌<◌, ◌≡◌, cond, List, [], ◌∷◌, eqb, ltb, length, get_or, T, Some}
 use Rattle.words.specs.Word.{no_page, mem_of}
 use Rattle.words.specs.declared.word.PageInfo.{PageInfo}
-use Rattle.words.specs.declared.word.Decoded.TheVariants.{Info}
 use Rattle.buddy.specs.Runs.{start}
 use Rattle.buddy.specs.Heap.{Kind, free, used, slab, file, Tag, tag, Heap, SoundHeap}
 use Rattle.pages.specs.Info.{free_info, allocated_info, slab_info, compound_info, file_info, reserved_info}
@@ -85,7 +84,7 @@ pub record Shows (r : HeapMemoryRegion) (ws : List ℕ) (h : Heap) : Type 0 wher
   pub limits : Limits r.start_virt.0 r.page_count r.allocated (length ws)
   pub boot : AllSay ws 0 r.allocated (allocated_info 0)
   pub metadata : AllSay ws (end_of r) r.page_count reserved_info
-  pub words : (p : ℕ) → T (managed r ws p) → said ws p ≡ Info (entry h p)
+  pub words : (p : ℕ) → T (managed r ws p) → said ws p ≡ Some (entry h p)
   pub totals : (o : ℕ) → o ≤ 5 → get_or r.nr_pages o 0 ≡ h.blocks o
   pub frees : (o : ℕ) → o ≤ 5 → get_or r.free_pages o 0 ≡ length (h.list o)
   pub heads : (o : ℕ) → o ≤ 5 → get_or r.next_page o 0 ≡ head_or (h.list o)

@@ -1,27 +1,23 @@
--- The walk along a list, taken one step.
-use Rattle.common.specs.Kit.{ℕ, zero, suc, ◌-◌, ◌<◌, ◌≡◌, cond, List, eqb, length}
-use native.Mathlib.Nat.{lt_irrefl}
-use native.Mathlib.Numerals.{sub-one}
+-- The walk along a list, taken one step: i steps of n are done.
+use Rattle.common.specs.Kit.{ℕ, suc, ◌+◌, ◌-◌, ◌<◌, ◌≡◌, cond, List, eqb, length, Some, None, arith}
 use Rattle.words.specs.Word.{no_page}
 use Rattle.pages.specs.Said.{said, next_in}
 use Rattle.region.specs.State.{page_before, WalkOk}
-use Rattle.region.specs.declared.lists.Found.TheVariants.{At, Nothing}
 
-pub before-step :
-    (k at p : ℕ) (ws : List ℕ) →
-    0 < k →
-    page_before k at p ws
-    ≡ cond (eqb (next_in (said ws at)) no_page) Nothing (cond (eqb (next_in (said ws at)) p) (At at) (page_before (k - 1) (next_in (said ws at)) p ws))
-unfolding page_before
-before-step zero at p ws h = absurd (lt_irrefl 0 h)
-before-step (suc k) at p ws h = rw (sub-one (suc k))
+module _ (n i at p : ℕ) (ws : List ℕ) (more : i < n) where
+  left : n - i ≡ suc (n - (i + 1))
+  left = omega arith
 
-pub walk_step :
-    (k at p : ℕ) (ws : List ℕ) →
-    0 < k →
-    WalkOk k at p ws →
-    (at < length ws)
-    × ((next_in (said ws at) ≡ no_page → ⊥) → (next_in (said ws at) ≡ p → ⊥) → WalkOk (k - 1) (next_in (said ws at)) p ws)
-unfolding WalkOk
-walk_step zero at p ws h w = absurd (lt_irrefl 0 h)
-walk_step (suc k) at p ws h w = rw (sub-one (suc k)) w
+  pub before-step :
+      page_before (n - i) at p ws
+      ≡ cond (eqb (next_in (said ws at)) no_page) None
+      (cond (eqb (next_in (said ws at)) p) (Some at) (page_before (n - (i + 1)) (next_in (said ws at)) p ws))
+  unfolding page_before
+  before-step = rw left
+
+  pub walk_step :
+      WalkOk (n - i) at p ws →
+      (at < length ws)
+      × ((next_in (said ws at) ≡ no_page → ⊥) → (next_in (said ws at) ≡ p → ⊥) → WalkOk (n - (i + 1)) (next_in (said ws at)) p ws)
+  unfolding WalkOk
+  walk_step w = rw left at w

@@ -1,16 +1,15 @@
 -- A set M of pages, with a word each: blocks, the tiling, free blocks, lists, buddies and counts, by what the words say.
-use Rattle.std.specs.Prelude.{ℕ, ◌+◌, ◌-◌, ◌%◌, ◌^◌, ◌≤◌, ◌<◌, ◌≡◌, Bool, cond, ◌&&◌, List, [], ◌∷◌, T, eqb}
+use Rattle.std.specs.Prelude.{ℕ, ◌+◌, ◌-◌, ◌%◌, ◌^◌, ◌≤◌, ◌<◌, ◌≡◌, Bool, cond, ◌&&◌, List, [], ◌∷◌, T, eqb, Some}
 use Rattle.common.specs.Numbers.{count}
 use Rattle.words.specs.Word.{no_page}
 use Rattle.words.specs.declared.word.PageInfo.{PageInfo}
-use Rattle.words.specs.declared.word.Decoded.TheVariants.{Info}
 use Rattle.pages.specs.Info.{compound_info}
 use Rattle.pages.specs.Said.{said, next_in}
 use Rattle.pages.specs.Meaning.{head_order, free_order}
 
 -- every page from a up to e says i
 pub record AllSay (ws : List ℕ) (a e : ℕ) (i : PageInfo) : Type 0 where
-  pub each : (p : ℕ) → a ≤ p → p < e → said ws p ≡ Info i
+  pub each : (p : ℕ) → a ≤ p → p < e → said ws p ≡ Some i
 
 -- "A block of order o has 2^o pages and starts at a multiple of 2^o. Its head is ..; its other words are Compound of order o" (S9)
 pub record Block (ws : List ℕ) (M : ℕ → Bool) (p o : ℕ) : Type 0 where

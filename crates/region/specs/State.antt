@@ -1,13 +1,11 @@
 -- A state, that is a record (W12) and its words, and the single steps on it, as the code makes them: lists, split and merge.
 -- Each has beside it what makes it safe: indexes in range and counts that do not pass their ends. No step speaks of soundness.
-use Rattle.std.specs.Prelude.{ℕ, zero, suc, ◌+◌, ◌-◌, ◌^◌, ◌≤◌, ◌<◌, ◌≡◌, Bool, true, false, cond, List, eqb, leb, length, get_or, set}
+use Rattle.std.specs.Prelude.{ℕ, zero, suc, ◌+◌, ◌-◌, ◌^◌, ◌≤◌, ◌<◌, ◌≡◌, Bool, true, false, cond, List, eqb, leb, length, get_or, set, Option, Some, None}
 use Rattle.words.specs.Word.{no_page, mem_of}
 use Rattle.pages.specs.Info.{free_info, allocated_info}
 use Rattle.pages.specs.Said.{said, next_in}
 use Rattle.pages.specs.Fill.{BlockIn, mark, init}
 use Rattle.region.specs.declared.HeapMemoryRegion.{HeapMemoryRegion}
-use Rattle.region.specs.declared.lists.Found.{Found}
-use Rattle.region.specs.declared.lists.Found.TheVariants.{At, Nothing}
 
 pub record State : Type 0 where
   pub reg : HeapMemoryRegion
@@ -57,8 +55,8 @@ with_blocks r o n = record {
 }
 
 -- get_next_page: take the head of list o off, and mark it Allocated (C20)
-unfoldable pub head_taken : ℕ → State → Found
-head_taken o s = cond (eqb (head_in s o) no_page) Nothing (At (head_in s o))
+unfoldable pub head_taken : ℕ → State → Option ℕ
+head_taken o s = cond (eqb (head_in s o) no_page) None (Some (head_in s o))
 
 unfoldable pub take_head : ℕ → State → State
 take_head o s =
@@ -80,11 +78,11 @@ pub record PutOk (p o : ℕ) (s : State) : Type 0 where
   pub count : frees_in s o < room
 
 -- the page before p on the list that goes on at `at`, in at most k steps
-unfoldable pub page_before : ℕ → ℕ → ℕ → List ℕ → Found
-page_before zero at p ws = Nothing
+unfoldable pub page_before : ℕ → ℕ → ℕ → List ℕ → Option ℕ
+page_before zero at p ws = None
 page_before (suc k) at p ws =
-    cond (eqb (next_in (said ws at)) no_page) Nothing
-    (cond (eqb (next_in (said ws at)) p) (At at) (page_before k (next_in (said ws at)) p ws))
+    cond (eqb (next_in (said ws at)) no_page) None
+    (cond (eqb (next_in (said ws at)) p) (Some at) (page_before k (next_in (said ws at)) p ws))
 
 unfoldable pub WalkOk : ℕ → ℕ → ℕ → List ℕ → Type 0
 WalkOk zero at p ws = Unit {0}
@@ -105,12 +103,12 @@ pub record CutOk (b p o : ℕ) (s : State) : Type 0 where
   pub some : 0 < frees_in s o
 
 -- what f makes of what was found, and d if it is nothing
-abbrev pub if_at : {A : Type 0} → Found → (ℕ → A) → A → A
-if_at (At p) f d = f p
-if_at Nothing f d = d
+abbrev pub if_at : {A : Type 0} → Option ℕ → (ℕ → A) → A → A
+if_at (Some p) f d = f p
+if_at None f d = d
 
 -- allocate_pfn: take page p out of list o (C22)
-abbrev pub before : ℕ → ℕ → State → Found
+abbrev pub before : ℕ → ℕ → State → Option ℕ
 before p o s = page_before (frees_in s o) (head_in s o) p s.ws
 
 unfoldable pub pull : ℕ → ℕ → State → State
@@ -126,7 +124,7 @@ pulls p o s =
 pub record PullOk (p o : ℕ) (s : State) : Type 0 where
   pub take : TakeOk o s
   pub walk : (head_in s o ≡ no_page → ⊥) → (head_in s o ≡ p → ⊥) → WalkOk (frees_in s o) (head_in s o) p s.ws
-  pub cuts : (b : ℕ) → (head_in s o ≡ no_page → ⊥) → (head_in s o ≡ p → ⊥) → before p o s ≡ At b → CutOk b p o s
+  pub cuts : (b : ℕ) → (head_in s o ≡ no_page → ⊥) → (head_in s o ≡ p → ⊥) → before p o s ≡ Some b → CutOk b p o s
 
 -- split_page: the block of order o + 1 at page p, which is out, becomes two of order o at the head of list o, the lower half first (C30)
 unfoldable pub split : ℕ → ℕ → State → State

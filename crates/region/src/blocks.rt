@@ -2,22 +2,9 @@
 ghost use Rattle.std.specs.Prelude.{◌≡◌, ◌-◌, ◌<◌};
 ghost use Rattle.region.specs.State.{st, Gives, with_blocks, SplitOk, split, lower, MergeOk, merge};
 
-use crate::HeapMemoryRegion;
+use crate::{After, HeapMemoryRegion};
 use pages::{init_compound_page, mark_compound_page, size, write_page_info};
 use words::word::{AllocatedInfo, PageInfo};
-
-// The record, and the head of the merged block.
-#[derive(Clone, Copy)]
-pub struct Merged {
-    pub region: HeapMemoryRegion,
-    pub page: usize,
-}
-
-pub fn least(a: usize, b: usize) -> usize
-    ensures { result ≡ lower a b }
-{
-    if a <= b { a } else { b }
-}
 
 impl HeapMemoryRegion {
     // The record with another number of blocks of one order.
@@ -52,12 +39,18 @@ impl HeapMemoryRegion {
 
     // Makes one block of two buddies that are out, one order up; the lower page is its head.
     #[tactic(auto, unfolding(crate::specs::State::merge))]
-    pub fn merge_pages(self, words: &mut [u64], pfn1: usize, pfn2: usize, order: usize) -> Merged
+    pub fn merge_pages(
+        self,
+        words: &mut [u64],
+        pfn1: usize,
+        pfn2: usize,
+        order: usize,
+    ) -> After<usize>
         requires { MergeOk pfn1 pfn2 order (st self words.old) }
-        ensures { Gives (lower pfn1 pfn2) (merge (lower pfn1 pfn2) order (st self words.old)) result.page (st result.region words.new) }
+        ensures { Gives (lower pfn1 pfn2) (merge (lower pfn1 pfn2) order (st self words.old)) result.answer (st result.region words.new) }
     {
         let new_order = order + 1;
-        let pfn = least(pfn1, pfn2);
+        let pfn = pfn1.min(pfn2);
         write_page_info(
             words,
             pfn,
@@ -69,9 +62,9 @@ impl HeapMemoryRegion {
         let next = self
             .with_blocks(order, halves - 2)
             .with_blocks(new_order, wholes + 1);
-        Merged {
+        After {
             region: next,
-            page: pfn,
+            answer: pfn,
         }
     }
 }

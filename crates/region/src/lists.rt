@@ -2,50 +2,27 @@
 ghost use Rattle.std.specs.Prelude.{◌≡◌, ◌<◌};
 ghost use Rattle.region.specs.State.{st, Gives, with_list, TakeOk, take_head, head_taken, PutOk, put_head, WalkOk, page_before, CutOk, cut, PullOk, pull, pulls};
 
-use crate::HeapMemoryRegion;
+use crate::{After, HeapMemoryRegion};
 use pages::{next_free_pfn, write_page_info};
 use words::word::{AllocatedInfo, FreeInfo, NO_PAGE, PageInfo};
 
-// A page or an order that was looked for.
-#[derive(Clone, Copy)]
-pub enum Found {
-    At(usize),
-    Nothing,
-}
-
-// The record, and the page taken off a list.
-#[derive(Clone, Copy)]
-pub struct Taken {
-    pub region: HeapMemoryRegion,
-    pub head: Found,
-}
-
-// The record, and whether the block was on the list.
-#[derive(Clone, Copy)]
-pub struct Pulled {
-    pub region: HeapMemoryRegion,
-    pub found: bool,
-}
-
 // The page before `pfn` on the list that goes on at `first`, looked for in at most `count` steps.
-pub fn page_before(words: &[u64], first: usize, pfn: usize, count: usize) -> Found
+pub fn page_before(words: &[u64], first: usize, pfn: usize, count: usize) -> Option<usize>
     requires { WalkOk count first pfn words.now }
     ensures { result ≡ page_before count first pfn words.now }
 {
     let mut old_pfn = first;
-    let mut left = count;
-    while 0 < left {
+    for _ in 0..count {
         let current_pfn = next_free_pfn(words, old_pfn);
         if current_pfn == NO_PAGE {
-            return Found::Nothing;
+            return None;
         }
         if current_pfn == pfn {
-            return Found::At(old_pfn);
+            return Some(old_pfn);
         }
         old_pfn = current_pfn;
-        left -= 1;
     }
-    Found::Nothing
+    None
 }
 
 impl HeapMemoryRegion {
@@ -63,23 +40,23 @@ impl HeapMemoryRegion {
 
     // Takes the head of list `order`, and marks it Allocated.
     #[tactic(auto, unfolding(crate::specs::State::take_head, crate::specs::State::head_taken))]
-    pub fn get_next_page(self, words: &mut [u64], order: usize) -> Taken
+    pub fn get_next_page(self, words: &mut [u64], order: usize) -> After<Option<usize>>
         requires { TakeOk order (st self words.old) }
-        ensures { Gives (head_taken order (st self words.old)) (take_head order (st self words.old)) result.head (st result.region words.new) }
+        ensures { Gives (head_taken order (st self words.old)) (take_head order (st self words.old)) result.answer (st result.region words.new) }
     {
         let pfn = self.next_page[order];
         if pfn == NO_PAGE {
-            return Taken {
+            return After {
                 region: self,
-                head: Found::Nothing,
+                answer: None,
             };
         }
         let next = next_free_pfn(words, pfn);
         write_page_info(words, pfn, PageInfo::Allocated(AllocatedInfo { order }));
         let free = self.free_pages[order];
-        Taken {
+        After {
             region: self.with_list(order, next, free - 1),
-            head: Found::At(pfn),
+            answer: Some(pfn),
         }
     }
 
@@ -117,36 +94,33 @@ impl HeapMemoryRegion {
 
     // Takes the block `pfn` out of list `order`; the others keep their order.
     #[tactic(auto, unfolding(crate::specs::State::pull, crate::specs::State::pulls))]
-    pub fn allocate_pfn(self, words: &mut [u64], pfn: usize, order: usize) -> Pulled
+    pub fn allocate_pfn(self, words: &mut [u64], pfn: usize, order: usize) -> After<bool>
         requires { PullOk pfn order (st self words.old) }
-        ensures { Gives (pulls pfn order (st self words.old)) (pull pfn order (st self words.old)) result.found (st result.region words.new) }
+        ensures { Gives (pulls pfn order (st self words.old)) (pull pfn order (st self words.old)) result.answer (st result.region words.new) }
     {
         let first_pfn = self.next_page[order];
         if first_pfn == NO_PAGE {
-            return Pulled {
+            return After {
                 region: self,
-                found: false,
+                answer: false,
             };
         }
         if first_pfn == pfn {
-            let taken = self.get_next_page(words, order);
-            let rest = taken.region;
-            return Pulled {
-                region: rest,
-                found: true,
+            let After { region, .. } = self.get_next_page(words, order);
+            return After {
+                region,
+                answer: true,
             };
         }
-        let before = page_before(words, first_pfn, pfn, self.free_pages[order]);
-        let Found::At(old_pfn) = before else {
-            return Pulled {
+        let Some(old_pfn) = page_before(words, first_pfn, pfn, self.free_pages[order]) else {
+            return After {
                 region: self,
-                found: false,
+                answer: false,
             };
         };
-        let rest = self.cut_page(words, old_pfn, pfn, order);
-        Pulled {
-            region: rest,
-            found: true,
+        After {
+            region: self.cut_page(words, old_pfn, pfn, order),
+            answer: true,
         }
     }
 }

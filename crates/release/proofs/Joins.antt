@@ -1,20 +1,18 @@
 -- The buddy, the merge with it and the recursion up the orders, taken one step.
-use Rattle.common.specs.Kit.{ℕ, suc, ◌+◌, ◌-◌, ◌≤◌, ◌<◌, ◌≡◌, refl, sym, ◌∙◌, Bool, true, false, cond, true≢false, eqb, ltb, add-one, arith, ne_eqb, ltb-true, ltb-false}
+use Rattle.common.specs.Kit.{ℕ, suc, ◌+◌, ◌-◌, ◌≤◌, ◌<◌, ◌≡◌, refl, sym, ◌∙◌, Bool, true, false, cond, true≢false, eqb, ltb, add-one, arith, ne_eqb, ltb-true, ltb-false, Option, Some, None}
 use Rattle.common.proofs.Tests.{by-test}
 use Rattle.pages.specs.Said.{said}
 use Rattle.pages.specs.Meaning.{no_order, free_order}
 use Rattle.region.specs.Pages.{buddy_of}
 use Rattle.region.specs.State.{State, st, Gives, lower, put_head, PutOk}
 use Rattle.region.specs.Steps.{neighbor, joins, join, try_page, try_join, TryOk, free_from, FreeOk}
-use Rattle.region.specs.declared.lists.Found.{Found}
-use Rattle.region.specs.declared.lists.Found.TheVariants.{At, Nothing}
 
 -- an answer that is a page came by a test that held, and Nothing by one that failed
-at_true : {x : Found} {q : ℕ} (b : Bool) → cond b x Nothing ≡ At q → (b ≡ true) × (x ≡ At q)
+at_true : {x : Option ℕ} {q : ℕ} (b : Bool) → cond b x None ≡ Some q → (b ≡ true) × (x ≡ Some q)
 at_true true e = (refl, e)
 at_true false e = let z : ◌≡◌ {A = ℕ} 0 1 = cc in absurd (omega arith)
 
-nothing_false : (q : ℕ) (b : Bool) → cond b (At q) Nothing ≡ Nothing → b ≡ false
+nothing_false : (q : ℕ) (b : Bool) → cond b (Some q) None ≡ None → b ≡ false
 nothing_false q true e = let z : ◌≡◌ {A = ℕ} 0 1 = cc in absurd (omega arith)
 nothing_false q false e = refl
 
@@ -31,7 +29,7 @@ pub record Mate (n p o q : ℕ) : Type 0 where
   pub is : q ≡ buddy_of o p
   pub inside : q < n
 
-pub mate : {n p o q : ℕ} → neighbor n p o ≡ At q → Mate n p o q
+pub mate : {n p o q : ℕ} → neighbor n p o ≡ Some q → Mate n p o q
 unfolding neighbor
 mate {n} {p} {o} {q} e =
     let a = at_true (ltb o 5) e in
@@ -40,17 +38,17 @@ mate {n} {p} {o} {q} e =
 
 module _ (p o : ℕ) (s : State) where
   -- no merge where there is no buddy
-  pub joins-none : neighbor s.reg.page_count p o ≡ Nothing → joins p o s ≡ false
+  pub joins-none : neighbor s.reg.page_count p o ≡ None → joins p o s ≡ false
   unfolding joins
   joins-none e = rw e
 
   -- with a buddy, it goes by the order that its word tells
   pub joins_at :
-      {x : ℕ} (q : ℕ) → neighbor s.reg.page_count p o ≡ At q → free_order (said s.ws q) ≡ x → joins p o s ≡ eqb x o
+      {x : ℕ} (q : ℕ) → neighbor s.reg.page_count p o ≡ Some q → free_order (said s.ws q) ≡ x → joins p o s ≡ eqb x o
   unfolding joins
   joins_at q e f = rw (e, f)
 
-  pub joins-other : (q : ℕ) → neighbor s.reg.page_count p o ≡ At q → free_order (said s.ws q) ≡ no_order → joins p o s ≡ false
+  pub joins-other : (q : ℕ) → neighbor s.reg.page_count p o ≡ Some q → free_order (said s.ws q) ≡ no_order → joins p o s ≡ false
   joins-other q e f = joins_at q e f ∙ ne_eqb no_order o (λ z. omega (arith, (mate e).small))
 
   joins-below : joins p o s ≡ true → o < 5
@@ -60,13 +58,13 @@ module _ (p o : ℕ) (s : State) where
   joins-top : 5 ≤ o → joins p o s ≡ false
   joins-top h = by-test (joins p o s) (λ j. absurd (omega (arith, joins-below j))) (λ j. j)
 
-  pub kept : joins p o s ≡ false → Gives (try_page p o s) (try_join p o s) Nothing s
+  pub kept : joins p o s ≡ false → Gives (try_page p o s) (try_join p o s) None s
   kept j = simp j (record { answers = refl; leaves = refl })
 
-  try-none : try_page p o s ≡ Nothing → joins p o s ≡ false
+  try-none : try_page p o s ≡ None → joins p o s ≡ false
   try-none e = nothing_false _ (joins p o s) e
 
-  try-some : (q : ℕ) → try_page p o s ≡ At q → (joins p o s ≡ true) × (q ≡ lower p (buddy_of o p))
+  try-some : (q : ℕ) → try_page p o s ≡ Some q → (joins p o s ≡ true) × (q ≡ lower p (buddy_of o p))
   try-some q e = let a = at_true (joins p o s) e in (a.0, let b = a.1 in cc)
 
   -- at order 5 nothing joins, so both recursions have one form at every order
@@ -91,7 +89,7 @@ module _ (p o : ℕ) (s : State) where
     pub ok : FreeOk (5 - o) p o s → PutOk p o s'
     pub freed : free_from (5 - o) p o s ≡ put_head p o s'
 
-  pub stays : {s' : State} {a : Found} → Gives (try_page p o s) (try_join p o s) a s' → a ≡ Nothing → Stays (st s.reg s'.ws)
+  pub stays : {s' : State} {a : Option ℕ} → Gives (try_page p o s) (try_join p o s) a s' → a ≡ None → Stays (st s.reg s'.ws)
   stays {s'} tried e =
       let j = try-none (sym tried.answers ∙ e) in
       let same : st s.reg s'.ws ≡ s = rw (simp j at tried.leaves) in
@@ -103,7 +101,7 @@ module _ (p o : ℕ) (s : State) where
     pub ok : FreeOk (5 - o) p o s → FreeOk (5 - (o + 1)) q (o + 1) s'
     pub freed : free_from (5 - o) p o s ≡ free_from (5 - (o + 1)) q (o + 1) s'
 
-  pub goes : {s' : State} {a : Found} {q : ℕ} → Gives (try_page p o s) (try_join p o s) a s' → a ≡ At q → Goes q s'
+  pub goes : {s' : State} {a : Option ℕ} {q : ℕ} → Gives (try_page p o s) (try_join p o s) a s' → a ≡ Some q → Goes q s'
   goes {s'} {a} {q} tried e =
       let j = try-some q (sym tried.answers ∙ e) in
       let same : s' ≡ join p o s = simp j.0 at tried.leaves in

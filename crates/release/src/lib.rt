@@ -8,24 +8,23 @@ ghost use Rattle.region.specs.Steps.{NeighborOk, neighbor, TryOk, try_page, try_
 
 use pages::{read_page_info, size};
 use region::HeapMemoryRegion;
-use region::lists::Found;
-use words::word::{Decoded, MAX_ORDER, PageInfo};
+use words::word::{MAX_ORDER, PageInfo};
 
 // The record, and the head of the merged block if there was a merge.
 #[derive(Clone, Copy)]
 pub struct Tried {
     pub region: HeapMemoryRegion,
-    pub page: Found,
+    pub page: Option<usize>,
 }
 
 // The buddy of a block: below order 5, and inside a region of `page_count` pages.
 #[tactic(auto, unfolding(region::specs::Steps::neighbor))]
-pub fn compound_neighbor(page_count: usize, pfn: usize, order: usize) -> Found
+pub fn compound_neighbor(page_count: usize, pfn: usize, order: usize) -> Option<usize>
     requires { NeighborOk pfn order }
     ensures { result ≡ neighbor page_count pfn order }
 {
     if MAX_ORDER - 1 <= order {
-        return Found::Nothing;
+        return None;
     }
     let half = size(order);
     let mate = if pfn % (2 * half) == 0 {
@@ -34,9 +33,9 @@ pub fn compound_neighbor(page_count: usize, pfn: usize, order: usize) -> Found
         pfn - half
     };
     if mate < page_count {
-        Found::At(mate)
+        Some(mate)
     } else {
-        Found::Nothing
+        None
     }
 }
 
@@ -52,12 +51,12 @@ pub fn try_to_merge_page(
 {
     let kept = Tried {
         region: region,
-        page: Found::Nothing,
+        page: None,
     };
-    let Found::At(neighbor_pfn) = compound_neighbor(region.page_count, pfn, order) else {
+    let Some(neighbor_pfn) = compound_neighbor(region.page_count, pfn, order) else {
         return kept;
     };
-    let Decoded::Info(info) = read_page_info(words, neighbor_pfn) else {
+    let Some(info) = read_page_info(words, neighbor_pfn) else {
         return kept;
     };
     let PageInfo::Free(fi) = info else {
@@ -71,7 +70,7 @@ pub fn try_to_merge_page(
     let rest = merged.region;
     Tried {
         region: rest,
-        page: Found::At(merged.page),
+        page: Some(merged.page),
     }
 }
 
@@ -87,7 +86,7 @@ pub fn free_page_order(
 {
     let tried = try_to_merge_page(region, words, pfn, order);
     let page = tried.page;
-    let Found::At(new_pfn) = page else {
+    let Some(new_pfn) = page else {
         // What did not merge is as it was.
         return region.free_page_raw(words, pfn, order);
     };

@@ -1,6 +1,6 @@
 -- The free: what the code makes of sound input is what the promise says. Rule 5 on record and words is rule 5 on the heap, and a word that may
 -- be freed heads a block out of the order that it tells.
-use Rattle.common.specs.Kit.{ℕ, ◌-◌, ◌≤◌, ◌<◌, ◌≡◌, refl, ap, true, false, cond, List, [], ◌∷◌, ltb, ltb-false}
+use Rattle.common.specs.Kit.{ℕ, ◌-◌, ◌≤◌, ◌<◌, ◌≡◌, refl, ap, true, false, cond, List, [], ◌∷◌, ltb, ltb-false, Option, Some, None}
 use Rattle.common.proofs.Tests.{by-test}
 use Rattle.buddy.specs.Heap.{Heap}
 use Rattle.buddy.specs.Request.{on, to_free}
@@ -11,8 +11,6 @@ use Rattle.region.specs.State.{st, if_at}
 use Rattle.region.specs.Steps.{free_from, FreeOk}
 use Rattle.refine.specs.Image.{heap_of}
 use Rattle.region.specs.declared.HeapMemoryRegion.{HeapMemoryRegion}
-use Rattle.region.specs.declared.lists.Found.{Found}
-use Rattle.region.specs.declared.lists.Found.TheVariants.{At, Nothing}
 use Rattle.region.specs.Layout.{managed}
 use Rattle.refine.proofs.Step.{Rule}
 use Rattle.refine.proofs.Free.{free-image}
@@ -34,7 +32,7 @@ module _ {r : HeapMemoryRegion} {ws : List ℕ} (good : SoundInput r ws) where
   out-frees out = rw (is-image good, out.order) (rw out.head at
       (free-image (fit good) (lent good) (out-block (fit good).fits.core.tiled out)))
 
-  pub free-ok : (p o : ℕ) → r.allocated ≤ p → p < r.page_count → freeable (said ws p) ≡ At o → FreeOk (5 - o) p o (st r ws)
+  pub free-ok : (p o : ℕ) → r.allocated ≤ p → p < r.page_count → freeable (said ws p) ≡ Some o → FreeOk (5 - o) p o (st r ws)
   free-ok p o boot l e = (out-frees (freeable-out good.sound p o boot l e)).ok
 
   pub free-code : (a : ℕ)
@@ -47,8 +45,8 @@ module _ {r : HeapMemoryRegion} {ws : List ℕ} (good : SoundInput r ws) where
       (λ t. rw t)
       (λ t. rw (t, may_free_lem (said ws p)) (go p l (ltb-false p r.allocated t) (freeable (said ws p)) refl)))
     where
-      go : (p : ℕ) → p < r.page_count → r.allocated ≤ p → (f : Found) → freeable (said ws p) ≡ f
+      go : (p : ℕ) → p < r.page_count → r.allocated ≤ p → (f : Option ℕ) → freeable (said ws p) ≡ f
           → if_at f (λ o. leaves (ok []) (free_from (5 - o) p o (st r ws))) (kept r ws (no 9 (a ∷ [])))
           ≡ cond (if_at f (λ o. true) false) (became r (free_page (managed r ws) h p) (ok [])) (kept r ws (no 9 (a ∷ [])))
-      go p l boot (At o) e = ap (leaves (ok [])) (out-frees (freeable-out good.sound p o boot l e)).leaves
-      go p l boot Nothing e = refl
+      go p l boot (Some o) e = ap (leaves (ok [])) (out-frees (freeable-out good.sound p o boot l e)).leaves
+      go p l boot None e = refl

@@ -1,6 +1,6 @@
 -- The grants: what the code makes of sound input is what the promises say. Rule 4 on record and words is rule 4 on the heap, and the address
 -- of the page granted is written in 64 bits.
-use Rattle.common.specs.Kit.{ℕ, ◌<◌, ◌≡◌, refl, ap, ◌∙◌, ◌≢◌, true, false, List, [], ◌∷◌, arith, lt-ltb}
+use Rattle.common.specs.Kit.{ℕ, ◌<◌, ◌≡◌, refl, ap, ◌∙◌, ◌≢◌, true, false, List, [], ◌∷◌, arith, lt-ltb, Some, None}
 use Rattle.words.specs.declared.word.PageInfo.{PageInfo}
 use Rattle.buddy.specs.Runs.{first}
 use Rattle.buddy.specs.Heap.{Kind, free, slab, file, Tag, good_item, Heap}
@@ -15,7 +15,6 @@ use Rattle.region.specs.State.{State, st, if_at}
 use Rattle.region.specs.Steps.{lowest_from, grant_page, grant, GrantOk}
 use Rattle.refine.specs.Image.{head_info, heap_of, region_of, image}
 use Rattle.region.specs.declared.HeapMemoryRegion.{HeapMemoryRegion}
-use Rattle.region.specs.declared.lists.Found.TheVariants.{At, Nothing}
 use Rattle.region.specs.Layout.{managed}
 use Rattle.refine.proofs.Grant.{Grants, grant-image}
 use Rattle.refine.proofs.Refill.{lowest-none, lowest-at}
@@ -41,8 +40,8 @@ module _ {r : HeapMemoryRegion} {ws : List ℕ} (good : SoundInput r ws) where
 
   -- the page that the code grants and the state that it leaves are those of an answer
   abbrev Leaves : ℕ → PageInfo → Grant → Type 0
-  Leaves o i refused = (grant_page o (st r ws) ≡ Nothing) × (grant o i (st r ws) ≡ st r ws)
-  Leaves o i (granted g c) = (grant_page o (st r ws) ≡ At (first o c)) × (grant o i (st r ws) ≡ image r g) × (first o c < r.page_count)
+  Leaves o i refused = (grant_page o (st r ws) ≡ None) × (grant o i (st r ws) ≡ st r ws)
+  Leaves o i (granted g c) = (grant_page o (st r ws) ≡ Some (first o c)) × (grant o i (st r ws) ≡ image r g) × (first o c < r.page_count)
 
   leaves-grants : (o : ℕ) (i : PageInfo) (a : Grant) → Leaves o i a → code_grants o i (st r ws) ≡ grants r ws o a
   unfolding code_grants grants

@@ -1,9 +1,7 @@
 -- What the word of a page of a sound region tells of the heap: a page that may be freed heads a block out, a File heads a file page of its
 -- count, and no other page does.
-use Rattle.common.specs.Kit.{ℕ, ◌≤◌, ◌<◌, ◌≡◌, refl, sym, ap, ◌∙◌, ◌≢◌, by_cases, true, false, List, T, length, get_or, ℕ_discrete, arith, ltb-true, cond, not}
+use Rattle.common.specs.Kit.{ℕ, ◌≤◌, ◌<◌, ◌≡◌, refl, sym, ap, ◌∙◌, ◌≢◌, by_cases, true, false, List, T, length, get_or, ℕ_discrete, arith, ltb-true, cond, not, Option, Some, None}
 use Rattle.common.proofs.Tests.{by-test}
-use Rattle.words.specs.declared.word.Decoded.{Decoded}
-use Rattle.words.specs.declared.word.Decoded.TheVariants.{Info}
 use Rattle.buddy.specs.Runs.{start, Head}
 use Rattle.buddy.specs.Heap.{Kind, free, used, slab, file, is_free, Fits, Tiled, Heap}
 use Rattle.buddy.proofs.Tags.{used≢free}
@@ -17,7 +15,6 @@ use Rattle.region.specs.Sound.{Sound}
 use Rattle.region.specs.State.{if_at}
 use Rattle.refine.specs.Image.{head_info, heap_of}
 use Rattle.region.specs.declared.HeapMemoryRegion.{HeapMemoryRegion}
-use Rattle.region.specs.declared.lists.Found.TheVariants.{At, Nothing}
 use Rattle.refine.proofs.Shown.{head-zero}
 use Rattle.refine.proofs.Managed.{by-page}
 use Rattle.refine.proofs.Meanings.{head-kind}
@@ -27,36 +24,37 @@ use Rattle.refine.proofs.Law.{read-sound, read-shows}
 use Rattle.sound_calls.specs.Promise.{may_free}
 use Rattle.sound_calls.specs.Code.{freeable, SaidOk}
 use Rattle.sound_calls.proofs.SoundInput.{SoundInput}
+use Rattle.words.specs.declared.word.PageInfo.{PageInfo}
 
 -- a word may be freed exactly when it tells an order to free
-pub may_free_lem : (d : Decoded) → may_free d ≡ if_at (freeable d) (λ o. true) false
+pub may_free_lem : (d : Option PageInfo) → may_free d ≡ if_at (freeable d) (λ o. true) false
 may_free_lem d = go (means d)
   where
-    go : (m : Meaning) → if_head m (λ k o. not (is_free k)) false ≡ if_at (if_head m (λ k o. cond (is_free k) Nothing (At o)) Nothing) (λ o. true) false
+    go : (m : Meaning) → if_head m (λ k o. not (is_free k)) false ≡ if_at (if_head m (λ k o. cond (is_free k) None (Some o)) None) (λ o. true) false
     go (Meaning.head k o) = by-test (is_free k) (λ t. rw t) (λ t. rw t)
     go (Meaning.tail o) = refl
     go Meaning.none = refl
 
 -- the head of a block tells its order, unless the block is free
 module _ (next : ℕ) where
-  head-freeable : (k : Kind) (o : ℕ) → Fits k o → k ≢ free → freeable (Info (head_info k o next)) ≡ At o
+  head-freeable : (k : Kind) (o : ℕ) → Fits k o → k ≢ free → freeable (Some (head_info k o next)) ≡ Some o
   head-freeable free o f busy = absurd (busy refl)
   head-freeable used o f busy = refl
-  head-freeable (slab i) o f busy = ap At (sym f.0)
-  head-freeable (file n) o f busy = ap At (sym f.0)
+  head-freeable (slab i) o f busy = ap Some (sym f.0)
+  head-freeable (file n) o f busy = ap Some (sym f.0)
 
-  freeable-head : (k : Kind) (o j : ℕ) → Fits k o → freeable (Info (head_info k o next)) ≡ At j → (k ≢ free) × (o ≡ j)
+  freeable-head : (k : Kind) (o j : ℕ) → Fits k o → freeable (Some (head_info k o next)) ≡ Some j → (k ≢ free) × (o ≡ j)
   freeable-head free o j f e = never (cc)
   freeable-head used o j f e = (used≢free, cc)
   freeable-head (slab i) o j f e = (slab≢free i, f.0 ∙ cc)
   freeable-head (file n) o j f e = (file≢free n, f.0 ∙ cc)
 
 -- what page p of a region may say
-pub data Page (r : HeapMemoryRegion) (ws : List ℕ) (h : Heap) (p : ℕ) : Decoded → Type 0 where
-  boot : p < r.allocated → Page r ws h p (Info (allocated_info 0))
-  head : T (managed r ws p) → Head (h.at p).order p → (next : ℕ) → Page r ws h p (Info (head_info (h.at p).kind (h.at p).order next))
-  tail : T (managed r ws p) → start (h.at p).order p ≢ p → Page r ws h p (Info (compound_info (h.at p).order))
-  meta : end_of r ≤ p → Page r ws h p (Info reserved_info)
+pub data Page (r : HeapMemoryRegion) (ws : List ℕ) (h : Heap) (p : ℕ) : Option PageInfo → Type 0 where
+  boot : p < r.allocated → Page r ws h p (Some (allocated_info 0))
+  head : T (managed r ws p) → Head (h.at p).order p → (next : ℕ) → Page r ws h p (Some (head_info (h.at p).kind (h.at p).order next))
+  tail : T (managed r ws p) → start (h.at p).order p ≢ p → Page r ws h p (Some (compound_info (h.at p).order))
+  meta : end_of r ≤ p → Page r ws h p (Some reserved_info)
 
 module _ {r : HeapMemoryRegion} {ws : List ℕ} (sound : Sound r ws) where
   abbrev h : Heap
@@ -78,10 +76,10 @@ module _ {r : HeapMemoryRegion} {ws : List ℕ} (sound : Sound r ws) where
         (λ x. rw (sound.metadata.each p x l) (meta x))
 
     -- a page that may be freed as order o, and is no boot page, heads a block out of that order
-    pub freeable-out : (o : ℕ) → r.allocated ≤ p → p < r.page_count → freeable (said ws p) ≡ At o → OutHead (managed r ws) h.at o p
+    pub freeable-out : (o : ℕ) → r.allocated ≤ p → p < r.page_count → freeable (said ws p) ≡ Some o → OutHead (managed r ws) h.at o p
     freeable-out o a l = go (said ws p) (page-says l)
       where
-        go : (d : Decoded) → Page r ws h p d → freeable d ≡ At o → OutHead (managed r ws) h.at o p
+        go : (d : Option PageInfo) → Page r ws h p d → freeable d ≡ Some o → OutHead (managed r ws) h.at o p
         go _ (boot x) e = absurd (omega arith)
         go _ (head m z next) e =
             let b = freeable-head next (h.at p).kind (h.at p).order o (tiled p m).fits e in
@@ -89,22 +87,22 @@ module _ {r : HeapMemoryRegion} {ws : List ℕ} (sound : Sound r ws) where
         go _ (tail m z) e = never (cc)
         go _ (meta x) e = never (cc)
 
-    pub out-freeable : (o : ℕ) → OutHead (managed r ws) h.at o p → freeable (said ws p) ≡ At o
+    pub out-freeable : (o : ℕ) → OutHead (managed r ws) h.at o p → freeable (said ws p) ≡ Some o
     out-freeable o out =
         rw (says-head says p out.managed (rw out.order out.head))
-        (head-freeable _ (h.at p).kind (h.at p).order (tiled p out.managed).fits out.busy ∙ ap At out.order)
+        (head-freeable _ (h.at p).kind (h.at p).order (tiled p out.managed).fits out.busy ∙ ap Some out.order)
 
     -- a page that says File is a file page of that count
-    pub said-file : (n : ℕ) → p < r.page_count → said ws p ≡ Info (file_info n) → FilePage (managed r ws) h.at p n
+    pub said-file : (n : ℕ) → p < r.page_count → said ws p ≡ Some (file_info n) → FilePage (managed r ws) h.at p n
     said-file n l = go (said ws p) (page-says l)
       where
-        go : (d : Decoded) → Page r ws h p d → d ≡ Info (file_info n) → FilePage (managed r ws) h.at p n
+        go : (d : Option PageInfo) → Page r ws h p d → d ≡ Some (file_info n) → FilePage (managed r ws) h.at p n
         go _ (boot x) e = never (cc)
         go _ (head m z next) e = file-page tiled m (sym (head-kind (h.at p).kind (h.at p).order next (tiled p m).fits) ∙ ap kind_said e)
         go _ (tail m z) e = never (cc)
         go _ (meta x) e = never (cc)
 
-    pub file-said : (n : ℕ) → FilePage (managed r ws) h.at p n → said ws p ≡ Info (file_info n)
+    pub file-said : (n : ℕ) → FilePage (managed r ws) h.at p n → said ws p ≡ Some (file_info n)
     file-said n f = rw f.is at (says-head says p f.managed (rw f.is (head-zero p)))
 
 -- a word of 64 bits that says Allocated has an order

@@ -1,8 +1,7 @@
 -- Every promise on sound input goes one of the ways: what the words tell is what the heap is, and every rule leaves a sound heap that fits.
-use Rattle.common.specs.Kit.{ℕ, ◌+◌, ◌-◌, ◌≤◌, ◌<◌, ◌≡◌, refl, ◌≢◌, Bool, true, false, cond, true≢false, List, [], ◌∷◌, ltb, arith, ltb-true, ltb-false}
+use Rattle.common.specs.Kit.{ℕ, ◌+◌, ◌-◌, ◌≤◌, ◌<◌, ◌≡◌, refl, ◌≢◌, Bool, true, false, cond, true≢false, List, [], ◌∷◌, ltb, arith, ltb-true, ltb-false, Option, Some, None}
 use Rattle.common.proofs.Tests.{by-test, T_true}
 use Rattle.words.specs.declared.place.PageAt.TheVariants.{Start}
-use Rattle.words.specs.declared.word.Decoded.TheVariants.{Info}
 use Rattle.buddy.specs.Runs.{first}
 use Rattle.buddy.specs.Heap.{Kind, free, slab, file, good_item, Heap, Fits}
 use Rattle.buddy.specs.Steps.{label}
@@ -21,8 +20,6 @@ use Rattle.pages.proofs.Patterns.{by-file}
 use Rattle.region.specs.State.{if_at}
 use Rattle.refine.specs.Image.{heap_of}
 use Rattle.region.specs.declared.HeapMemoryRegion.{HeapMemoryRegion}
-use Rattle.region.specs.declared.lists.Found.{Found}
-use Rattle.region.specs.declared.lists.Found.TheVariants.{At, Nothing}
 use Rattle.refine.specs.Fit.{Holds, SoundFit}
 use Rattle.region.specs.Layout.{managed}
 use Rattle.refine.proofs.Label.{label-fit}
@@ -77,18 +74,18 @@ module _ {r : HeapMemoryRegion} {ws : List ℕ} (good : SoundInput r ws) where
     page-in : p < r.page_count
     page-in = start-in r a (record { 0 = p }) is
 
-    free-way : (f : Found) → freeable (said ws p) ≡ f → r.allocated ≤ p
+    free-way : (f : Option ℕ) → freeable (said ws p) ≡ f → r.allocated ≤ p
         → Way r ws (on to_free a) (cond (if_at f (λ o. true) false) (became r (free_page (managed r ws) (heap_of r ws) p) (ok [])) (kept r ws (no 9 (a ∷ []))))
-    free-way (At o) e l =
+    free-way (Some o) e l =
         let out = freeable-out good.sound p o l page-in e in
         succeed p _ done is (give-out (heap_of r ws) out) tells-done (out-frees good out).fit
-    free-way Nothing e l = refuse (type p is (λ o out. never (cc (out-freeable good.sound p o out))))
+    free-way None e l = refuse (type p is (λ o out. never (cc (out-freeable good.sound p o out))))
 
     other_way : (u : Use) → u ≢ to_free → ((A : Type 0) (f : ℕ → A) (x : A) → if_file (said ws p) f x ≡ x)
         → Way r ws (on u a) (kept r ws (no 10 (a ∷ [])))
     other_way u n other = refuse (no-file p n is (λ n f. true≢false (rw (file-said good.sound p n f) at (other Bool (λ _. true) false))))
 
-    get-way : (n : ℕ) → said ws p ≡ Info (file_info n)
+    get-way : (n : ℕ) → said ws p ≡ Some (file_info n)
         → Way r ws (on to_get a) (cond (ltb n max_count) (became r (recount (heap_of r ws) p (n + 1)) (ok ((n + 1) ∷ []))) (kept r ws (no 11 (a ∷ []))))
     unfolding call on_file
     get-way n e =
@@ -102,7 +99,7 @@ module _ {r : HeapMemoryRegion} {ws : List ℕ} (good : SoundInput r ws) where
         let e : n ≡ max_count = omega (arith, ltb-false n max_count t, count_fits good f) in
         rw t (refuse (full p is (rw e at f))))
 
-    put-way : (n : ℕ) → said ws p ≡ Info (file_info n)
+    put-way : (n : ℕ) → said ws p ≡ Some (file_info n)
         → Way r ws (on to_put a) (became r (put_to (managed r ws) (heap_of r ws) p (n - 1)) (ok ((n - 1) ∷ [])))
     put-way n e =
         let f = said-file good.sound p n page-in e in

@@ -1,9 +1,8 @@
 -- A refusal changes nothing: a promise that tells a number other than 0 leaves record and words as they came, sound or not. By the promises'
 -- definitions. This is a result.
-use Rattle.common.specs.Kit.{ℕ, ◌≡◌, refl, ◌≢◌, Bool, true, false, cond, List, ltb}
+use Rattle.common.specs.Kit.{ℕ, ◌≡◌, refl, ◌≢◌, Bool, true, false, cond, List, ltb, Option}
 use Rattle.words.specs.declared.place.PageAt.{PageAt}
 use Rattle.words.specs.declared.place.PageAt.TheVariants.{Start, Within}
-use Rattle.words.specs.declared.word.Decoded.{Decoded}
 use Rattle.buddy.specs.Request.{Request, for_block, for_file, for_slab, on, to_free, to_get, to_put}
 use Rattle.buddy.specs.Rules.{Grant, refused, granted}
 use Rattle.pages.specs.Said.{said}
@@ -14,6 +13,7 @@ use Rattle.region.specs.declared.HeapMemoryRegion.{HeapMemoryRegion}
 use Rattle.sound_calls.specs.Answer.{Result}
 use Rattle.sound_calls.specs.declared.Answer.{Answer}
 use Rattle.sound_calls.specs.Promise.{kept, may_free, max_count, grants, slab_grants, at_page, does_at, does}
+use Rattle.words.specs.declared.word.PageInfo.{PageInfo}
 
 module _ (r : HeapMemoryRegion) (ws : List ℕ) where
   -- if it is a refusal, nothing changed
@@ -47,7 +47,7 @@ module _ (r : HeapMemoryRegion) (ws : List ℕ) where
   place-stays a (Within p) s = refuses _
   place-stays a PageAt.Outside s = refuses _
 
-  file-stays : (d : Decoded) {f : ℕ → Result} {y : Result} → ((n : ℕ) → Stays (f n)) → Stays y → Stays (if_file d f y)
+  file-stays : (d : Option PageInfo) {f : ℕ → Result} {y : Result} → ((n : ℕ) → Stays (f n)) → Stays y → Stays (if_file d f y)
   file-stays d s t = by-file d (λ n e. rw e (s n)) (λ other. simp other t)
 
   pub does_stays : (x : Request) → Stays (does r ws x)

@@ -1,15 +1,10 @@
 -- What the inner functions of the calls answer and leave, by the steps on a state.
-use Rattle.std.specs.Prelude.{ℕ, ◌<◌, ◌≡◌, [], cond}
+use Rattle.std.specs.Prelude.{ℕ, ◌<◌, ◌≡◌, [], cond, Option, Some, None}
 use Rattle.words.specs.Place.{address_at}
-use Rattle.words.specs.declared.place.AddressAt.{AddressAt}
 use Rattle.words.specs.declared.word.PageInfo.{PageInfo}
-use Rattle.words.specs.declared.word.Decoded.{Decoded}
-use Rattle.words.specs.declared.word.Decoded.TheVariants.{Info}
 use Rattle.buddy.specs.Heap.{is_free}
 use Rattle.pages.specs.Meaning.{means, if_head}
 use Rattle.pages.specs.Info.{allocated_info}
-use Rattle.region.specs.declared.lists.Found.{Found}
-use Rattle.region.specs.declared.lists.Found.TheVariants.{Nothing}
 use Rattle.region.specs.State.{State, if_at}
 use Rattle.region.specs.Steps.{grant_page}
 use Rattle.region.specs.Steps as Steps
@@ -17,19 +12,20 @@ use Rattle.sound_calls.specs.Answer.{no, grant, Result, result_of}
 use Rattle.sound_calls.specs.declared.Answer.{Answer}
 use Rattle.sound_calls.specs.declared.AllocError.TheVariants.{OutOfMemory}
 use Rattle.sound_calls.specs.declared.Grant.{Grant}
+use Rattle.words.specs.declared.place.VirtAddr.{VirtAddr}
 
 -- a page's address as an answer
-abbrev pub address_grant : AddressAt → Grant
-address_grant (AddressAt.At a) = Grant.At a
-address_grant AddressAt.Outside = Grant.Refused OutOfMemory
+abbrev pub address_grant : Option VirtAddr → Grant
+address_grant (Some a) = Grant.At a
+address_grant None = Grant.Refused OutOfMemory
 
 -- the order of the block that a free takes at a word
-abbrev pub freeable : Decoded → Found
-freeable d = if_head (means d) (λ k o. cond (is_free k) Nothing (Found.At o)) Nothing
+abbrev pub freeable : Option PageInfo → Option ℕ
+freeable d = if_head (means d) (λ k o. cond (is_free k) None (Some o)) None
 
 -- a word that decodes has an order
-pub record SaidOk (d : Decoded) : Type 0 where
-  pub order : (o : ℕ) → d ≡ Info (allocated_info o) → o < 6
+pub record SaidOk (d : Option PageInfo) : Type 0 where
+  pub order : (o : ℕ) → d ≡ Some (allocated_info o) → o < 6
 
 -- a state as a result
 abbrev pub leaves : Answer → State → Result

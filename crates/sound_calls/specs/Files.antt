@@ -1,7 +1,6 @@
 -- The count of a file page on its word: rules C61 and C62, as the code makes them. The page stands at address a.
-use Rattle.std.specs.Prelude.{ℕ, ◌+◌, ◌-◌, ◌≤◌, ◌<◌, ◌≡◌, cond, List, [], ◌∷◌, leb, length, set}
+use Rattle.std.specs.Prelude.{ℕ, ◌+◌, ◌-◌, ◌≤◌, ◌<◌, ◌≡◌, cond, List, [], ◌∷◌, leb, length, set, Some}
 use Rattle.words.specs.Word.{mem_of}
-use Rattle.words.specs.declared.word.Decoded.TheVariants.{Info}
 use Rattle.pages.specs.Info.{file_info}
 use Rattle.pages.specs.Said.{said}
 use Rattle.pages.specs.Meaning.{if_file}
@@ -34,4 +33,4 @@ put_state p s =
 
 pub record PutFileOk (p : ℕ) (s : State) : Type 0 where
   pub page : p < length s.ws
-  pub last : (n : ℕ) → said s.ws p ≡ Info (file_info n) → n ≤ 1 → FreeOk 5 p 0 s
+  pub last : (n : ℕ) → said s.ws p ≡ Some (file_info n) → n ≤ 1 → FreeOk 5 p 0 s

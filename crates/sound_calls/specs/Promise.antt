@@ -1,9 +1,8 @@
 -- What each request does on sound input: the checks in the order of the refusals' numbers (R50), then the model's rule. Total functions that compute.
-use Rattle.std.specs.Prelude.{ℕ, ◌+◌, ◌-◌, ◌*◌, ◌^◌, Bool, false, cond, List, [], ◌∷◌, ltb, not}
+use Rattle.std.specs.Prelude.{ℕ, ◌+◌, ◌-◌, ◌*◌, ◌^◌, Bool, false, cond, List, [], ◌∷◌, ltb, not, Option}
 use Rattle.words.specs.Place.{page_at}
 use Rattle.words.specs.declared.place.PageAt.{PageAt}
 use Rattle.words.specs.declared.place.PageAt.TheVariants.{Start, Within}
-use Rattle.words.specs.declared.word.Decoded.{Decoded}
 use Rattle.buddy.specs.Runs.{first}
 use Rattle.buddy.specs.Heap.{Kind, free, used, slab, file, is_free, good_item, Heap}
 use Rattle.buddy.specs.Rules.{Grant, refused, granted, allocate, free_page, file_page, slab_page, recount, put_to}
@@ -15,6 +14,7 @@ use Rattle.refine.specs.Image.{heap_of, region_of, words_of}
 use Rattle.region.specs.declared.HeapMemoryRegion.{HeapMemoryRegion}
 use Rattle.sound_calls.specs.Answer.{ok, no, Result, result_of}
 use Rattle.sound_calls.specs.declared.Answer.{Answer}
+use Rattle.words.specs.declared.word.PageInfo.{PageInfo}
 
 -- an answer that changes nothing: "a refusal changes no word and no field" (R51)
 abbrev pub kept : HeapMemoryRegion → List ℕ → Answer → Result
@@ -25,7 +25,7 @@ abbrev pub became : HeapMemoryRegion → Heap → Answer → Result
 became r h t = result_of t (region_of r h) (words_of r h)
 
 -- what a free takes, any head of a block that is out: "File and SlabPage are freed as order 0, a File whatever its count" (C51)
-abbrev pub may_free : Decoded → Bool
+abbrev pub may_free : Option PageInfo → Bool
 may_free d = if_head (means d) (λ k o. not (is_free k)) false
 
 -- "2^order times 4,096 and 4,096 for Allocated, item size twice for SlabPage"; refusal 9 for all else (C80, R9)
@@ -35,7 +35,7 @@ layout_as a used o = ok ((2 ^ o * 4096) ∷ 4096 ∷ [])
 layout_as a (slab i) o = ok (i ∷ i ∷ [])
 layout_as a (file n) o = no 9 (a ∷ [])
 
-abbrev pub layout_of : ℕ → Decoded → Answer
+abbrev pub layout_of : ℕ → Option PageInfo → Answer
 layout_of a d = if_head (means d) (layout_as a) (no 9 (a ∷ []))
 
 -- the largest count that a word has

@@ -12,7 +12,7 @@ use pages::{read_page_info, write_page_info};
 use region::HeapMemoryRegion;
 use release::free_page_order;
 use words::place::{PageAt, VirtAddr};
-use words::word::{Decoded, FileInfo, PageInfo};
+use words::word::{FileInfo, PageInfo};
 
 // One more reference to a file page, by its number.
 #[tactic(auto, unfolding(crate::specs::Files::got_count, crate::specs::Files::got_words))]
@@ -21,7 +21,7 @@ fn get_at(words: &mut [u64], pfn: usize, vaddr: VirtAddr) -> Count
     ensures answer { count result ≡ got_count vaddr.0 pfn words.old }
     ensures words { words.new ≡ got_words pfn words.old }
 {
-    let Decoded::Info(info) = read_page_info(words, pfn) else {
+    let Some(info) = read_page_info(words, pfn) else {
         return Count::Refused(AllocError::InvalidFilePage(vaddr));
     };
     let PageInfo::File(fi) = info else {
@@ -47,7 +47,7 @@ fn put_at(region: HeapMemoryRegion, words: &mut [u64], pfn: usize, vaddr: VirtAd
     requires { PutFileOk pfn (st region words.old) }
     ensures { Gives (put_count vaddr.0 pfn words.old) (put_state pfn (st region words.old)) (count result.answer) (st result.region words.new) }
 {
-    let Decoded::Info(info) = read_page_info(words, pfn) else {
+    let Some(info) = read_page_info(words, pfn) else {
         return Counted {
             region: region,
             answer: Count::Refused(AllocError::InvalidFilePage(vaddr)),

@@ -10,23 +10,22 @@ ghost use Rattle.sound_calls.specs.declared.Done.{Done};
 use crate::{AllocError, Done, Finished};
 use pages::read_page_info;
 use region::HeapMemoryRegion;
-use region::lists::Found;
 use release::free_page_order;
 use words::place::{PageAt, VirtAddr};
-use words::word::{Decoded, PageInfo};
+use words::word::{PageInfo};
 
 // The order of the block that a free takes at this word.
-fn order_to_free(said: Decoded) -> Found
+fn order_to_free(said: Option<PageInfo>) -> Option<usize>
     ensures { result ≡ freeable said }
 {
-    let Decoded::Info(info) = said else {
-        return Found::Nothing;
+    let Some(info) = said else {
+        return None;
     };
     match info {
-        PageInfo::Allocated(ai) => Found::At(ai.order),
-        PageInfo::Slab(_) => Found::At(0),
-        PageInfo::File(_) => Found::At(0),
-        _ => Found::Nothing,
+        PageInfo::Allocated(ai) => Some(ai.order),
+        PageInfo::Slab(_) => Some(0),
+        PageInfo::File(_) => Some(0),
+        _ => None,
     }
 }
 
@@ -54,7 +53,7 @@ pub fn free_page(region: HeapMemoryRegion, words: &mut [u64], vaddr: VirtAddr) -
         return refused(region, AllocError::BootPage(vaddr));
     }
     let order = order_to_free(read_page_info(words, pfn));
-    let Found::At(order) = order else {
+    let Some(order) = order else {
         return refused(region, AllocError::InvalidPageType(vaddr));
     };
     let rest = free_page_order(region, words, pfn, order);

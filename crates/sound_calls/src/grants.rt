@@ -13,8 +13,7 @@ use crate::{AllocError, Grant, Granted};
 use grant::{allocate_pages_info, find_order};
 use pages::good_item;
 use region::HeapMemoryRegion;
-use region::lists::Found;
-use words::place::{AddressAt, PageNumber, VirtAddr};
+use words::place::{PageNumber, VirtAddr};
 use words::word::{AllocatedInfo, FileInfo, MAX_ORDER, PageInfo, SlabPageInfo};
 
 // The answer for a page of a region.
@@ -22,7 +21,7 @@ fn granted_at(start_virt: VirtAddr, page_count: usize, pfn: usize) -> Grant
     ensures { result ≡ address_grant (address_at start_virt.0 page_count pfn) }
 {
     let address = PageNumber(pfn as u64).virt_addr(start_virt, page_count as u64);
-    let AddressAt::At(vaddr) = address else {
+    let Some(vaddr) = address else {
         return Grant::Refused(AllocError::OutOfMemory);
     };
     Grant::At(vaddr)
@@ -44,7 +43,7 @@ fn allocate_info(
     let granted = allocate_pages_info(region, words, order, info);
     let rest = granted.region;
     let page = granted.page;
-    let Found::At(pfn) = page else {
+    let Some(pfn) = page else {
         return Granted {
             region: rest,
             answer: Grant::Refused(AllocError::OutOfMemory),
@@ -93,7 +92,7 @@ pub fn allocate_slab_page(region: HeapMemoryRegion, words: &mut [u64], item_size
     }
     let heads = region.next_page;
     let found = find_order(heads, 0);
-    let Found::At(_) = found else {
+    let Some(_) = found else {
         return Granted {
             region: region,
             answer: Grant::Refused(AllocError::OutOfMemory),

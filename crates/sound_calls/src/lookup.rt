@@ -9,14 +9,14 @@ use crate::{AllocError, Layout, SizeAlign};
 use pages::{read_page_info, size};
 use region::HeapMemoryRegion;
 use words::place::{PAGE_SIZE, PageAt, VirtAddr};
-use words::word::{Decoded, PageInfo};
+use words::word::{PageInfo};
 
 // The layout that a word tells.
-fn layout_of(said: Decoded, vaddr: VirtAddr) -> Layout
+fn layout_of(said: Option<PageInfo>, vaddr: VirtAddr) -> Layout
     requires { SaidOk said }
     ensures { layout result ≡ layout_of vaddr.0 said }
 {
-    let Decoded::Info(info) = said else {
+    let Some(info) = said else {
         return Layout::Refused(AllocError::InvalidPageType(vaddr));
     };
     match info {

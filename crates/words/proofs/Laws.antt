@@ -1,21 +1,17 @@
 -- Words pack and unpack without loss, and one meaning has one word. The laws at the end are results.
-use Rattle.common.specs.Kit.{ℕ, ◌+◌, ◌*◌, ◌^◌, ◌<◌, ◌≡◌, refl, ap, subst, ◌↔◌, true, eqb, arith, ne_eqb, lt-ltb, eqb-true, eqb-false, ltb-true}
+use Rattle.common.specs.Kit.{ℕ, ◌+◌, ◌*◌, ◌^◌, ◌<◌, ◌≡◌, refl, ap, subst, ◌↔◌, true, eqb, arith, ne_eqb, lt-ltb, eqb-true, eqb-false, ltb-true, Option, Some, None}
 use Rattle.common.proofs.Tests.{by-test, and-true}
 use Rattle.words.specs.Word.{max_order, no_page, no_next, next_field, type_in, rest_in, order_in, above_order, item_in, above_item, row, decode_of, in_table, word_of, encode_of, mem_of}
 use Rattle.words.specs.declared.word.PageStorageType.{PageStorageType}
 use Rattle.words.specs.declared.word.PageInfo.{PageInfo}
 use Rattle.words.specs.declared.word.PageInfo.TheVariants.{Free, Allocated, Slab, Compound, File, Reserved}
-use Rattle.words.specs.declared.word.Decoded.{Decoded}
-use Rattle.words.specs.declared.word.Decoded.TheVariants.{Info}
-use Rattle.words.specs.declared.word.Encoded.{Encoded}
-use Rattle.words.specs.declared.word.Encoded.TheVariants.{Word}
 use Rattle.words.proofs.Fields.{field_back, word_fits}
 use Rattle.words.proofs.Rows.{by_row}
 
 -- the word of what a word says is that word; its fields are in the table
-abbrev Again : ℕ → Decoded → Type 0
-Again w (Info i) = (in_table i ≡ true) × (word_of i ≡ w)
-Again w Decoded.No = Unit {0}
+abbrev Again : ℕ → Option PageInfo → Type 0
+Again w (Some i) = (in_table i ≡ true) × (word_of i ≡ w)
+Again w None = Unit {0}
 
 again : (w : ℕ) → w < 2 ^ 64 → Again w (decode_of w)
 again w b =
@@ -43,7 +39,7 @@ module _ (p o t : ℕ) (h : o < 2 ^ 8) (k : t < 2 ^ 4) where
   above-part = let q : rest_in (p * 2 ^ 12 + o * 2 ^ 4 + t) ≡ p * 2 ^ 8 + o = omega arith in rw q (omega arith)
 
 -- fields that are in the table are what their word says
-pub decode-word : (i : PageInfo) → in_table i ≡ true → decode_of (word_of i) ≡ Info i
+pub decode-word : (i : PageInfo) → in_table i ≡ true → decode_of (word_of i) ≡ Some i
 unfolding decode_of row
 decode-word (Free f) h =
     let b = and-true _ _ h in
@@ -83,7 +79,7 @@ decode-word (File f) h =
 decode-word (Reserved r) h = refl
 
 -- a word is its number
-word-inj : {v w : ℕ} → ◌≡◌ {A = Encoded} (Word (record { 0 = v })) (Word (record { 0 = w })) → v ≡ w
+word-inj : {v w : ℕ} → ◌≡◌ {A = Option PageStorageType} (Some (record { 0 = v })) (Some (record { 0 = w })) → v ≡ w
 word-inj {v} {w} e =
     let q : ◌≡◌ {A = PageStorageType} (record { 0 = v }) (record { 0 = w }) = cc in ap (λ (x : PageStorageType). x.0) q
 
@@ -93,32 +89,32 @@ unfolding mem_of
 mem_word i h = rw h
 
 -- ENCODE THEN DECODE is the identity on all fields that have a word, and the word fits 64 bits
-pub encode-decode : (i : PageInfo) (w : ℕ) → encode_of i ≡ Word (record { 0 = w }) → (w < 2 ^ 64) × (decode_of w ≡ Info i)
+pub encode-decode : (i : PageInfo) (w : ℕ) → encode_of i ≡ Some (record { 0 = w }) → (w < 2 ^ 64) × (decode_of w ≡ Some i)
 unfolding encode_of
 encode-decode i w e =
     by-test (in_table i)
-    (λ h. subst (λ (n : ℕ). (n < 2 ^ 64) × (decode_of n ≡ Info i)) (word-inj (simp h at e)) (word_fits i h, decode-word i h))
+    (λ h. subst (λ (n : ℕ). (n < 2 ^ 64) × (decode_of n ≡ Some i)) (word-inj (simp h at e)) (word_fits i h, decode-word i h))
     (λ h. let z : ◌≡◌ {A = ℕ} 0 1 = cc (simp h at e) in absurd (eqb-false 0 1 refl z))
 
 -- DECODE THEN ENCODE gives back the word, for every 64 bits that decode
-pub decode-encode : (w : ℕ) (i : PageInfo) → w < 2 ^ 64 → decode_of w ≡ Info i → encode_of i ≡ Word (record { 0 = w })
+pub decode-encode : (w : ℕ) (i : PageInfo) → w < 2 ^ 64 → decode_of w ≡ Some i → encode_of i ≡ Some (record { 0 = w })
 unfolding encode_of
 decode-encode w i b e = let a = subst (Again w) e (again w b) in rw (a.0, a.1)
 
 -- ONE MEANING HAS ONE WORD
-pub one_word : (v w : ℕ) (i : PageInfo) → v < 2 ^ 64 → w < 2 ^ 64 → decode_of v ≡ Info i → decode_of w ≡ Info i → v ≡ w
+pub one_word : (v w : ℕ) (i : PageInfo) → v < 2 ^ 64 → w < 2 ^ 64 → decode_of v ≡ Some i → decode_of w ≡ Some i → v ≡ w
 one_word v w i bv bw dv dw = word-inj (cc (decode-encode v i bv dv, decode-encode w i bw dw))
 
 -- ENCODE SAYS NO exactly when nothing decodes to the fields
-pub encode-no : (i : PageInfo) → (encode_of i ≡ Encoded.No) ↔ ((w : ℕ) → w < 2 ^ 64 → decode_of w ≡ Info i → ⊥)
+pub encode-no : (i : PageInfo) → (encode_of i ≡ None) ↔ ((w : ℕ) → w < 2 ^ 64 → decode_of w ≡ Some i → ⊥)
 unfolding encode_of
 encode-no i = (refuse, only)
   where
-    differ : {w : PageStorageType} → encode_of i ≡ Encoded.No → encode_of i ≡ Word w → ⊥
+    differ : {w : PageStorageType} → encode_of i ≡ None → encode_of i ≡ Some w → ⊥
     differ n e = let z : ◌≡◌ {A = ℕ} 0 1 = cc in eqb-false 0 1 refl z
 
-    refuse : encode_of i ≡ Encoded.No → (w : ℕ) → w < 2 ^ 64 → decode_of w ≡ Info i → ⊥
+    refuse : encode_of i ≡ None → (w : ℕ) → w < 2 ^ 64 → decode_of w ≡ Some i → ⊥
     refuse n w b d = differ n (decode-encode w i b d)
 
-    only : ((w : ℕ) → w < 2 ^ 64 → decode_of w ≡ Info i → ⊥) → encode_of i ≡ Encoded.No
+    only : ((w : ℕ) → w < 2 ^ 64 → decode_of w ≡ Some i → ⊥) → encode_of i ≡ None
     only none = by-test (in_table i) (λ h. absurd (none (word_of i) (word_fits i h) (decode-word i h))) (λ h. rw h)

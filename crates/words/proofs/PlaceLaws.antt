@@ -1,16 +1,14 @@
 -- From a page to its address and back, and from an address that starts a page to the page and back. These are results.
-use Rattle.common.specs.Kit.{ℕ, ◌+◌, ◌-◌, ◌*◌, ◌/◌, ◌%◌, ◌^◌, ◌≤◌, ◌<◌, ◌≡◌, refl, subst, eqb, leb, ltb, arith, lt-ltb, le-ltb, lt-leb, eqb-true, ltb-false, leb-false}
+use Rattle.common.specs.Kit.{ℕ, ◌+◌, ◌-◌, ◌*◌, ◌/◌, ◌%◌, ◌^◌, ◌≤◌, ◌<◌, ◌≡◌, refl, subst, eqb, leb, ltb, arith, lt-ltb, le-ltb, lt-leb, eqb-true, ltb-false, leb-false, Option, Some, None}
 use Rattle.common.proofs.Tests.{by-test}
 use Rattle.words.specs.Place.{page_at, address_at}
 use Rattle.words.specs.declared.place.PageNumber.{PageNumber}
 use Rattle.words.specs.declared.place.VirtAddr.{VirtAddr}
 use Rattle.words.specs.declared.place.PageAt.{PageAt}
 use Rattle.words.specs.declared.place.PageAt.TheVariants.{Start, Within}
-use Rattle.words.specs.declared.place.AddressAt.{AddressAt}
-use Rattle.words.specs.declared.place.AddressAt.TheVariants.{At}
 
 module _ (start pages : ℕ) where
-  pub address-of : (p : ℕ) → p < pages → start + p * 4096 < 2 ^ 64 → address_at start pages p ≡ At (record { 0 = start + p * 4096 })
+  pub address-of : (p : ℕ) → p < pages → start + p * 4096 < 2 ^ 64 → address_at start pages p ≡ Some (record { 0 = start + p * 4096 })
   unfolding address_at
   address-of p h b = simp (lt-leb _ _ h, lt-ltb _ _ b)
 
@@ -39,9 +37,9 @@ module _ (start pages : ℕ) where
       (λ v. rw v (leb-false _ _ u, omega (arith, ltb-false a start t, eqb-true ((a - start) % 4096) 0 v)))
       (λ v. rw v (leb-false _ _ u))))))
 
-  abbrev Lies : ℕ → AddressAt → Type 0
-  Lies p (At a) = (p < pages) × (a.0 ≡ start + p * 4096)
-  Lies p AddressAt.Outside = Unit {0}
+  abbrev Lies : ℕ → Option VirtAddr → Type 0
+  Lies p (Some a) = (p < pages) × (a.0 ≡ start + p * 4096)
+  Lies p None = Unit {0}
 
   lies : (p : ℕ) → Lies p (address_at start pages p)
   unfolding address_at
@@ -50,11 +48,11 @@ module _ (start pages : ℕ) where
       (λ t. rw t (by-test (ltb (start + p * 4096) (2 ^ 64)) (λ u. rw u (leb-false _ _ t, refl)) (λ u. rw u tt)))
 
   -- the page at an address that starts it has that address
-  pub page-address : (a : ℕ) (p : PageNumber) → a < 2 ^ 64 → page_at start pages a ≡ Start p → address_at start pages p.0 ≡ At (record { 0 = a })
+  pub page-address : (a : ℕ) (p : PageNumber) → a < 2 ^ 64 → page_at start pages a ≡ Start p → address_at start pages p.0 ≡ Some (record { 0 = a })
   page-address a p b e =
       let s : Starts a (Start p) = subst (Starts a) e (starts a) in
       rw s.1 (address-of p.0 s.0 (omega arith))
 
   -- the address of a page is where that page starts
-  pub address-page : (p : ℕ) (a : VirtAddr) → address_at start pages p ≡ At a → page_at start pages a.0 ≡ Start (record { 0 = p })
-  address-page p a e = let l : Lies p (At a) = subst (Lies p) e (lies p) in rw l.1 (page-of p l.0)
+  pub address-page : (p : ℕ) (a : VirtAddr) → address_at start pages p ≡ Some a → page_at start pages a.0 ≡ Start (record { 0 = p })
+  address-page p a e = let l : Lies p (Some a) = subst (Lies p) e (lies p) in rw l.1 (page-of p l.0)

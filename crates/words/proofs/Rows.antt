@@ -1,14 +1,12 @@
 -- `decode_of` row by row: what holds of the answer in each row holds of the answer.
-use Rattle.common.specs.Kit.{ℕ, ◌<◌, ◌≡◌, eqb, ltb, eqb-true, ltb-true}
+use Rattle.common.specs.Kit.{ℕ, ◌<◌, ◌≡◌, eqb, ltb, eqb-true, ltb-true, Option, Some, None}
 use Rattle.common.proofs.Tests.{by-test}
 use Rattle.words.specs.Word.{max_order, next_page_of, type_in, rest_in, order_in, above_order, item_in, above_item, row, decode_of}
 use Rattle.words.specs.declared.word.PageInfo.{PageInfo}
 use Rattle.words.specs.declared.word.PageInfo.TheVariants.{Free, Allocated, Slab, Compound, File, Reserved}
-use Rattle.words.specs.declared.word.Decoded.{Decoded}
-use Rattle.words.specs.declared.word.Decoded.TheVariants.{Info}
 
 by-checks :
-    (P : Decoded → Type 0) → P Decoded.No → (i : PageInfo) (order spare : ℕ) → (order < max_order → spare ≡ 0 → P (Info i)) → P (row i order spare)
+    (P : Option PageInfo → Type 0) → P None → (i : PageInfo) (order spare : ℕ) → (order < max_order → spare ≡ 0 → P (Some i)) → P (row i order spare)
 unfolding row
 by-checks P bad i order spare good =
     by-test (ltb order max_order)
@@ -16,14 +14,14 @@ by-checks P bad i order spare good =
     (λ h. rw h bad)
 
 pub by_row :
-    (w : ℕ) (P : Decoded → Type 0) →
-    (type_in w ≡ 0 → order_in w < max_order → P (Info (Free (record { next_page = next_page_of (above_order w); order = order_in w })))) →
-    (type_in w ≡ 1 → order_in w < max_order → above_order w ≡ 0 → P (Info (Allocated (record { order = order_in w })))) →
-    (type_in w ≡ 2 → above_item w ≡ 0 → P (Info (Slab (record { item_size = item_in w })))) →
-    (type_in w ≡ 3 → order_in w < max_order → above_order w ≡ 0 → P (Info (Compound (record { order = order_in w })))) →
-    (type_in w ≡ 4 → P (Info (File (record { ref_count = rest_in w })))) →
-    (type_in w ≡ 15 → rest_in w ≡ 0 → P (Info (Reserved (record {})))) →
-    P Decoded.No →
+    (w : ℕ) (P : Option PageInfo → Type 0) →
+    (type_in w ≡ 0 → order_in w < max_order → P (Some (Free (record { next_page = next_page_of (above_order w); order = order_in w })))) →
+    (type_in w ≡ 1 → order_in w < max_order → above_order w ≡ 0 → P (Some (Allocated (record { order = order_in w })))) →
+    (type_in w ≡ 2 → above_item w ≡ 0 → P (Some (Slab (record { item_size = item_in w })))) →
+    (type_in w ≡ 3 → order_in w < max_order → above_order w ≡ 0 → P (Some (Compound (record { order = order_in w })))) →
+    (type_in w ≡ 4 → P (Some (File (record { ref_count = rest_in w })))) →
+    (type_in w ≡ 15 → rest_in w ≡ 0 → P (Some (Reserved (record {})))) →
+    P None →
     P (decode_of w)
 unfolding decode_of
 by_row w P free allocated slab compound file reserved bad =
@@ -35,8 +33,8 @@ by_row w P free allocated slab compound file reserved bad =
     (at 15 (checks _ (λ t _ s. reserved t s))
     bad)))))
   where
-    checks : (i : PageInfo) {k order spare : ℕ} → (type_in w ≡ k → order < max_order → spare ≡ 0 → P (Info i)) → type_in w ≡ k → P (row i order spare)
+    checks : (i : PageInfo) {k order spare : ℕ} → (type_in w ≡ k → order < max_order → spare ≡ 0 → P (Some i)) → type_in w ≡ k → P (row i order spare)
     checks i {k} {order} {spare} good t = by-checks P bad i order spare (good t)
 
-    at : (k : ℕ) {d e : Decoded} → (type_in w ≡ k → P d) → P e → P (mathlib.Core.Bool.cond (eqb (type_in w) k) d e)
+    at : (k : ℕ) {d e : Option PageInfo} → (type_in w ≡ k → P d) → P e → P (mathlib.Core.Bool.cond (eqb (type_in w) k) d e)
     at k f g = by-test (eqb (type_in w) k) (λ t. rw t (f (eqb-true _ _ t))) (λ t. rw t g)

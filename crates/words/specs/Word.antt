@@ -1,11 +1,10 @@
 -- The word of a page: rules W1 to W8 of docs/RULES.md, the table of types row by row.
-use Rattle.std.specs.Prelude.{ℕ, ◌+◌, ◌-◌, ◌*◌, ◌/◌, ◌%◌, ◌^◌, Bool, true, cond, ◌&&◌, ◌||◌, eqb, ltb}
+use Rattle.std.specs.Prelude.{ℕ, ◌+◌, ◌-◌, ◌*◌, ◌/◌, ◌%◌, ◌^◌, Bool, true, cond, ◌&&◌, ◌||◌, eqb, ltb, Option, Some, None, Result, Ok, Err}
+use Rattle.words.specs.declared.word.PageType.{PageType}
+use Rattle.words.specs.declared.word.UnknownType.{UnknownType}
 use Rattle.words.specs.declared.word.PageInfo.{PageInfo}
 use Rattle.words.specs.declared.word.PageInfo.TheVariants.{Free, Allocated, Slab, Compound, File, Reserved}
-use Rattle.words.specs.declared.word.Decoded.{Decoded}
-use Rattle.words.specs.declared.word.Decoded.TheVariants.{Info}
-use Rattle.words.specs.declared.word.Encoded.{Encoded}
-use Rattle.words.specs.declared.word.Encoded.TheVariants.{Word}
+use Rattle.words.specs.declared.word.PageStorageType.{PageStorageType}
 
 -- "An order is 0 to 5" (W3)
 abbrev pub max_order : ℕ
@@ -47,12 +46,23 @@ item_in w = rest_in w % 2 ^ 16
 abbrev pub above_item : ℕ → ℕ
 above_item w = rest_in w / 2 ^ 16
 
+-- the type that a number is (W1)
+unfoldable pub type_of : ℕ → Result PageType UnknownType
+type_of n =
+    cond (eqb n 0) (Ok PageType.Free)
+    (cond (eqb n 1) (Ok PageType.Allocated)
+    (cond (eqb n 2) (Ok PageType.Slab)
+    (cond (eqb n 3) (Ok PageType.Compound)
+    (cond (eqb n 4) (Ok PageType.File)
+    (cond (eqb n 15) (Ok PageType.Reserved)
+    (Err (record { 0 = n })))))))
+
 -- a row of the table: what the word says, if its order is an order and its spare bits are zero, looked at in this order (W4, W6)
-unfoldable pub row : PageInfo → ℕ → ℕ → Decoded
-row i order spare = cond (ltb order max_order) (cond (eqb spare 0) (Info i) Decoded.No) Decoded.No
+unfoldable pub row : PageInfo → ℕ → ℕ → Option PageInfo
+row i order spare = cond (ltb order max_order) (cond (eqb spare 0) (Some i) None) None
 
 -- what a word says: the rows by type, each with its order and its spare bits, 0 where it has none (W1, W2, W6)
-unfoldable pub decode_of : ℕ → Decoded
+unfoldable pub decode_of : ℕ → Option PageInfo
 decode_of w =
     cond (eqb (type_in w) 0) (row (Free (record { next_page = next_page_of (above_order w); order = order_in w })) (order_in w) 0)
     (cond (eqb (type_in w) 1) (row (Allocated (record { order = order_in w })) (order_in w) (above_order w))
@@ -60,7 +70,7 @@ decode_of w =
     (cond (eqb (type_in w) 3) (row (Compound (record { order = order_in w })) (order_in w) (above_order w))
     (cond (eqb (type_in w) 4) (row (File (record { ref_count = rest_in w })) 0 0)
     (cond (eqb (type_in w) 15) (row (Reserved (record {})) 0 (rest_in w))
-    Decoded.No)))))
+    None)))))
 
 -- some word has these fields
 abbrev pub in_table : PageInfo → Bool
@@ -81,8 +91,8 @@ word_of (File f) = f.ref_count * 2 ^ 4 + 4
 word_of (Reserved r) = 15
 
 -- "Encode takes raw fields and says no exactly when no word has them" (W7)
-unfoldable pub encode_of : PageInfo → Encoded
-encode_of i = cond (in_table i) (Word (record { 0 = word_of i })) Encoded.No
+unfoldable pub encode_of : PageInfo → Option PageStorageType
+encode_of i = cond (in_table i) (Some (record { 0 = word_of i })) None
 
 -- the word for callers whose fields have one; of others a Reserved page's
 unfoldable pub mem_of : PageInfo → ℕ

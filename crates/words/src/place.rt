@@ -20,13 +20,6 @@ pub enum PageAt {
     Outside,
 }
 
-// Where a page starts.
-#[derive(Clone, Copy)]
-pub enum AddressAt {
-    At(VirtAddr),
-    Outside,
-}
-
 impl VirtAddr {
     // The page of a region of `pages` pages from `start` on that holds this address.
     #[tactic(auto, unfolding(crate::specs::Place::page_at))]
@@ -50,19 +43,16 @@ impl VirtAddr {
 }
 
 impl PageNumber {
-    // The address of this page in a region of `pages` pages from `start` on.
+    // The address of this page in a region of `pages` pages from `start` on, if the region has it and 64 bits can write it.
     #[tactic(auto, unfolding(crate::specs::Place::address_at))]
-    pub fn virt_addr(self, start: VirtAddr, pages: u64) -> AddressAt
+    pub fn virt_addr(self, start: VirtAddr, pages: u64) -> Option<VirtAddr>
         ensures { result ≡ address_at start.0 pages self.0 }
     {
         if pages <= self.0 {
-            return AddressAt::Outside;
+            return None;
         }
-        let room = 0xffff_ffff_ffff_ffff - start.0;
-        if self.0 <= room / PAGE_SIZE {
-            AddressAt::At(VirtAddr(start.0 + self.0 * PAGE_SIZE))
-        } else {
-            AddressAt::Outside
-        }
+        let from = self.0.checked_mul(PAGE_SIZE)?;
+        let address = start.0.checked_add(from)?;
+        Some(VirtAddr(address))
     }
 }

@@ -3,66 +3,55 @@ ghost use Rattle.std.specs.Prelude.{◌≡◌};
 ghost use Rattle.words.specs.RawFields.{fields_of, encode_fields};
 
 use crate::word::{
-    AllocatedInfo, CompoundInfo, Encoded, FileInfo, FreeInfo, PageInfo, PageStorageType,
+    AllocatedInfo, CompoundInfo, FileInfo, FreeInfo, PageInfo, PageStorageType, PageType,
     ReservedInfo, SlabPageInfo,
 };
 
-#[derive(Clone, Copy)]
+#[derive(Clone, Copy, Debug, PartialEq, Eq)]
 pub struct Fields {
     pub kind: u64,
     pub field: u64,
     pub next: u64,
 }
 
-pub fn fields_of(info: PageInfo) -> Fields
-    ensures { result ≡ fields_of info }
-{
-    match info {
-        PageInfo::Free(i) => of(0, i.order as u64, i.next_page as u64),
-        PageInfo::Allocated(i) => of(1, i.order as u64, 0),
-        PageInfo::Slab(i) => of(2, i.item_size, 0),
-        PageInfo::Compound(i) => of(3, i.order as u64, 0),
-        PageInfo::File(i) => of(4, i.ref_count, 0),
-        PageInfo::Reserved(_) => of(15, 0, 0),
-    }
-}
+impl From<PageInfo> for Fields {
+    ghost from_gives = { λ info fields. fields ≡ fields_of info };
 
-fn of(kind: u64, field: u64, next: u64) -> Fields
-    ensures { result ≡ record { kind = kind; field = field; next = next } }
-{
-    Fields { kind, field, next }
+    fn from(info: PageInfo) -> Fields {
+        let (page_type, field, next) = match info {
+            PageInfo::Free(i) => (PageType::Free, i.order as u64, i.next_page as u64),
+            PageInfo::Allocated(i) => (PageType::Allocated, i.order as u64, 0),
+            PageInfo::Slab(i) => (PageType::Slab, i.item_size, 0),
+            PageInfo::Compound(i) => (PageType::Compound, i.order as u64, 0),
+            PageInfo::File(i) => (PageType::File, i.ref_count, 0),
+            PageInfo::Reserved(_) => (PageType::Reserved, 0, 0),
+        };
+        Fields {
+            kind: page_type as u64,
+            field,
+            next,
+        }
+    }
 }
 
 // The word of raw fields, by the type's number. A field that the type does not have must be 0.
-#[tactic(auto, unfolding(crate::specs::RawFields::encode_fields))]
-pub fn encode_fields(kind: u64, field: u64, next: u64) -> Encoded
+#[tactic(auto, unfolding(crate::specs::RawFields::encode_fields, crate::specs::Word::type_of))]
+pub fn encode_fields(kind: u64, field: u64, next: u64) -> Option<PageStorageType>
     ensures { result ≡ encode_fields kind field next }
 {
     let order = field as usize;
-    if kind == 0 {
-        let next_page = next as usize;
-        return PageStorageType::encode(PageInfo::Free(FreeInfo { next_page, order }));
-    }
-    if next != 0 {
-        return Encoded::No;
-    }
-    match kind {
-        1 => PageStorageType::encode(PageInfo::Allocated(AllocatedInfo { order })),
-        2 => PageStorageType::encode(PageInfo::Slab(SlabPageInfo { item_size: field })),
-        3 => PageStorageType::encode(PageInfo::Compound(CompoundInfo { order })),
-        4 => PageStorageType::encode(PageInfo::File(FileInfo { ref_count: field })),
-        15 => reserved(field),
-        _ => Encoded::No,
-    }
-}
-
-#[tactic(auto, unfolding(crate::specs::RawFields::encode_fields))]
-fn reserved(field: u64) -> Encoded
-    ensures { result ≡ encode_fields 15 field 0 }
-{
-    if field == 0 {
-        PageStorageType::encode(PageInfo::Reserved(ReservedInfo))
-    } else {
-        Encoded::No
-    }
+    let info = match PageType::try_from(kind).ok()? {
+        PageType::Free => PageInfo::Free(FreeInfo {
+            next_page: next as usize,
+            order,
+        }),
+        _ if next != 0 => return None,
+        PageType::Allocated => PageInfo::Allocated(AllocatedInfo { order }),
+        PageType::Slab => PageInfo::Slab(SlabPageInfo { item_size: field }),
+        PageType::Compound => PageInfo::Compound(CompoundInfo { order }),
+        PageType::File => PageInfo::File(FileInfo { ref_count: field }),
+        PageType::Reserved if field != 0 => return None,
+        PageType::Reserved => PageInfo::Reserved(ReservedInfo),
+    };
+    PageStorageType::encode(info)
 }

@@ -1,12 +1,46 @@
 // The word of a page: what one u64 says of its page, and back.
 ghost use Rattle.std.specs.Prelude.{◌≡◌, true};
-ghost use Rattle.words.specs.Word.{row, next_page_of, next_field, has_field, decode_of, in_table, word_of, encode_of, mem_of};
+ghost use Rattle.words.specs.Word.{type_of, row, next_page_of, next_field, has_field, decode_of, in_table, word_of, encode_of, mem_of};
 
 // No page: what the record and a FreeInfo write for none.
 pub const NO_PAGE: usize = 0xffff_ffff_ffff_ffff;
 
 // Orders are below this.
 pub const MAX_ORDER: usize = 6;
+
+// The types of pages, by their numbers in a word.
+#[derive(Clone, Copy, Debug, PartialEq, Eq)]
+pub enum PageType {
+    Free = 0,
+    Allocated = 1,
+    Slab = 2,
+    Compound = 3,
+    File = 4,
+    Reserved = 15,
+}
+
+// A number that is no type's.
+#[derive(Clone, Copy, Debug, PartialEq, Eq)]
+pub struct UnknownType(pub u64);
+
+impl TryFrom<u64> for PageType {
+    type Error = UnknownType;
+
+    ghost try_from_gives = { λ number t. t ≡ type_of number };
+
+    #[tactic(auto, unfolding(crate::specs::Word::type_of))]
+    fn try_from(number: u64) -> Result<PageType, UnknownType> {
+        match number {
+            0 => Ok(PageType::Free),
+            1 => Ok(PageType::Allocated),
+            2 => Ok(PageType::Slab),
+            3 => Ok(PageType::Compound),
+            4 => Ok(PageType::File),
+            15 => Ok(PageType::Reserved),
+            _ => Err(UnknownType(number)),
+        }
+    }
+}
 
 #[derive(Clone, Copy)]
 pub struct FreeInfo {
@@ -48,20 +82,6 @@ pub enum PageInfo {
     Reserved(ReservedInfo),
 }
 
-// What a word says, if it fits the table.
-#[derive(Clone, Copy)]
-pub enum Decoded {
-    Info(PageInfo),
-    No,
-}
-
-// The word of some fields, if they have one.
-#[derive(Clone, Copy)]
-pub enum Encoded {
-    Word(PageStorageType),
-    No,
-}
-
 #[derive(Clone, Copy)]
 pub struct PageStorageType(pub u64);
 
@@ -81,50 +101,43 @@ impl PageStorageType {
 
     const COUNTS: u64 = 1 << (64 - Self::TYPE_SHIFT);
 
-    const NEXTS: u64 = 1 << Self::NEXT_SHIFT;
-
     const NO_NEXT: u64 = 0xffff_ffff_ffff_ffff >> Self::NEXT_SHIFT;
 
     // What a word says. A word that does not fit the table is refused: by its type, then its order, then its spare bits.
-    #[tactic(auto, unfolding(crate::specs::Word::decode_of))]
-    pub fn decode(word: PageStorageType) -> Decoded
+    #[tactic(auto, unfolding(crate::specs::Word::decode_of, crate::specs::Word::type_of))]
+    pub fn decode(word: PageStorageType) -> Option<PageInfo>
         ensures { result ≡ decode_of word.0 }
     {
-        let w = word.0;
-        let kind = w % Self::TYPES;
-        let rest = w / Self::TYPES;
+        let page_type = PageType::try_from(word.0 % Self::TYPES).ok()?;
+        let rest = word.0 / Self::TYPES;
         let order = (rest % Self::ORDERS) as usize;
         let next = rest / Self::ORDERS;
-        match kind {
-            0 => {
+        match page_type {
+            PageType::Free => {
                 let next_page = decode_next(next);
                 row(PageInfo::Free(FreeInfo { next_page, order }), order, 0)
             }
-            1 => row(PageInfo::Allocated(AllocatedInfo { order }), order, next),
-            2 => {
+            PageType::Allocated => row(PageInfo::Allocated(AllocatedInfo { order }), order, next),
+            PageType::Slab => {
                 let item_size = rest % Self::ITEMS;
-                row(
-                    PageInfo::Slab(SlabPageInfo { item_size }),
-                    0,
-                    rest / Self::ITEMS,
-                )
+                let spare = rest / Self::ITEMS;
+                row(PageInfo::Slab(SlabPageInfo { item_size }), 0, spare)
             }
-            3 => row(PageInfo::Compound(CompoundInfo { order }), order, next),
-            4 => row(PageInfo::File(FileInfo { ref_count: rest }), 0, 0),
-            15 => row(PageInfo::Reserved(ReservedInfo), 0, rest),
-            _ => Decoded::No,
+            PageType::Compound => row(PageInfo::Compound(CompoundInfo { order }), order, next),
+            PageType::File => row(PageInfo::File(FileInfo { ref_count: rest }), 0, 0),
+            PageType::Reserved => row(PageInfo::Reserved(ReservedInfo), 0, rest),
         }
     }
 
     // The word of raw fields; "no" exactly when no word has them.
     #[tactic(auto, unfolding(crate::specs::Word::encode_of))]
-    pub fn encode(info: PageInfo) -> Encoded
+    pub fn encode(info: PageInfo) -> Option<PageStorageType>
         ensures { result ≡ encode_of info }
     {
         if in_table(info) {
-            Encoded::Word(PageStorageType(bits(info)))
+            Some(PageStorageType(bits(info)))
         } else {
-            Encoded::No
+            None
         }
     }
 
@@ -143,16 +156,13 @@ impl PageStorageType {
 
 // The answer of a row of the table: its order is refused first, then its spare bits.
 #[tactic(auto, unfolding(crate::specs::Word::row))]
-fn row(info: PageInfo, order: usize, spare: u64) -> Decoded
+fn row(info: PageInfo, order: usize, spare: u64) -> Option<PageInfo>
     ensures { result ≡ row info order spare }
 {
-    if MAX_ORDER <= order {
-        return Decoded::No;
-    }
-    if spare == 0 {
-        Decoded::Info(info)
+    if order < MAX_ORDER && spare == 0 {
+        Some(info)
     } else {
-        Decoded::No
+        None
     }
 }
 
@@ -182,11 +192,7 @@ fn encode_next(page: usize) -> u64
 fn has_field(page: usize) -> bool
     ensures { result ≡ has_field page }
 {
-    if page == NO_PAGE {
-        true
-    } else {
-        (page as u64) < PageStorageType::NO_NEXT
-    }
+    page == NO_PAGE || (page as u64) < PageStorageType::NO_NEXT
 }
 
 // Whether some word has these fields.
@@ -194,13 +200,7 @@ fn in_table(info: PageInfo) -> bool
     ensures { result ≡ in_table info }
 {
     match info {
-        PageInfo::Free(fi) => {
-            if fi.order < MAX_ORDER {
-                has_field(fi.next_page)
-            } else {
-                false
-            }
-        }
+        PageInfo::Free(fi) => fi.order < MAX_ORDER && has_field(fi.next_page),
         PageInfo::Allocated(ai) => ai.order < MAX_ORDER,
         PageInfo::Slab(si) => si.item_size < PageStorageType::ITEMS,
         PageInfo::Compound(ci) => ci.order < MAX_ORDER,
@@ -209,20 +209,21 @@ fn in_table(info: PageInfo) -> bool
     }
 }
 
-// The word of fields that have one.
+// The word of fields that have one: the type's number, and above it the rest.
 fn bits(info: PageInfo) -> u64
     requires { in_table info ≡ true }
     ensures { result ≡ word_of info }
 {
-    match info {
+    let (page_type, rest) = match info {
         PageInfo::Free(fi) => {
-            let next = encode_next(fi.next_page);
-            next * PageStorageType::NEXTS + fi.order as u64 * PageStorageType::TYPES
+            let next = encode_next(fi.next_page) * PageStorageType::ORDERS;
+            (PageType::Free, next + fi.order as u64)
         }
-        PageInfo::Allocated(ai) => ai.order as u64 * PageStorageType::TYPES + 1,
-        PageInfo::Slab(si) => si.item_size * PageStorageType::TYPES + 2,
-        PageInfo::Compound(ci) => ci.order as u64 * PageStorageType::TYPES + 3,
-        PageInfo::File(fi) => fi.ref_count * PageStorageType::TYPES + 4,
-        PageInfo::Reserved(_) => 15,
-    }
+        PageInfo::Allocated(ai) => (PageType::Allocated, ai.order as u64),
+        PageInfo::Slab(si) => (PageType::Slab, si.item_size),
+        PageInfo::Compound(ci) => (PageType::Compound, ci.order as u64),
+        PageInfo::File(fi) => (PageType::File, fi.ref_count),
+        PageInfo::Reserved(_) => (PageType::Reserved, 0),
+    };
+    rest * PageStorageType::TYPES + page_type as u64
 }

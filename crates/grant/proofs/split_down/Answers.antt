@@ -16,14 +16,14 @@ returns-in_default c =
 
 pub split_page-rest-requires : goal.split_page-rest-requires
 split_page-rest-requires c =
-    let some = sym c.get_next_page-taken.ensures.answers ∙ c.in-At.is in
+    let some = sym c.get_next_page-taken.ensures.answers ∙ c.in-Some.is in
     rw c.get_next_page-taken.ensures.leaves ((ok_step _ _ _ c.loop-ord-test.true c.loop-ord.invariant.0).1 _ some).0
 
 pub loop-ord-preserved : goal.loop-ord-preserved
 loop-ord-preserved c =
     let more = c.loop-ord-test.true in
     let i = c.loop-ord.invariant in
-    let some = sym c.get_next_page-taken.ensures.answers ∙ c.in-At.is in
+    let some = sym c.get_next_page-taken.ensures.answers ∙ c.in-Some.is in
     rw (c.split_page-rest.ensures, c.get_next_page-taken.ensures.leaves)
     (((ok_step _ _ _ more i.0).1 _ some).1, rw (i.1 ∙ down_step _ _ _ more) (simp some))
 

@@ -1,10 +1,9 @@
--- A fill begins with no word, and grows by one word at its end.
-use Rattle.common.specs.Kit.{arith}
-use Rattle.pages.proofs.Fill.{fill_none, fill_more}
+use Rattle.common.specs.Kit.{ℕ, ◌-◌, ◌+◌, ◌≡◌, length, take, drop, arith, rules}
+use Rattle.pages.proofs.Fill.{fill-between}
 use Rattle.pages.proofs.fill_words.Goals as goal
 
-pub loop-i-init : goal.loop-i-init
-loop-i-init c = (omega arith, fill_none _ _ _)
-
-pub loop-i-preserved : goal.loop-i-preserved
-loop-i-preserved c = (omega arith, rw c.loop-i.invariant.1 (fill_more _ _ _ _))
+pub returns : goal.returns
+returns c =
+    let k : c.args.from + c.args.count - c.args.from ≡ c.args.count = omega arith in
+    let n : length (take c.args.count (drop c.args.from c.args.words.now)) ≡ c.args.count = search rules in
+    rw (c.fill.ensures.after (λ y e. e), k, n, c.to_mem.ensures) (fill-between c.args.from _ c.args.count c.args.words.now c.requires)

@@ -13,12 +13,12 @@ pub returns-in_default : goal.returns-in_default
 returns-in_default t c = rw (stays _ _ _ c.try_to_merge_page-tried.ensures c.in_default.is).freed c.free_page_raw.ensures
 
 pub overflow_add-order : goal.overflow_add-order
-overflow_add-order t c = omega (arith, (goes _ _ _ c.try_to_merge_page-tried.ensures c.in-At.is).small)
+overflow_add-order t c = omega (arith, (goes _ _ _ c.try_to_merge_page-tried.ensures c.in-Some.is).small)
 
 pub free_page_order-requires : goal.free_page_order-requires
 free_page_order-requires t c =
-    let g = goes _ _ _ c.try_to_merge_page-tried.ensures c.in-At.is in
+    let g = goes _ _ _ c.try_to_merge_page-tried.ensures c.in-Some.is in
     (omega (arith, g.small, c.decreases), g.ok c.requires)
 
 pub returns : goal.returns
-returns t c = rw (goes _ _ _ c.try_to_merge_page-tried.ensures c.in-At.is).freed c.free_page_order.ensures
+returns t c = rw (goes _ _ _ c.try_to_merge_page-tried.ensures c.in-Some.is).freed c.free_page_order.ensures

@@ -1,7 +1,6 @@
 -- At each block, the page that the walk has come to is one of those that are walked, the order is the one that it heads, and the test for a
 -- block is the one of the walk.
-use Rattle.common.specs.Kit.{ℕ, ◌+◌, ◌^◌, ◌≤◌, ◌<◌, ◌≡◌, sym, ◌∙◌, Bool, true, List, arith, rules, not-true, not-false}
-use Rattle.words.specs.declared.word.Decoded.{Decoded}
+use Rattle.common.specs.Kit.{ℕ, ◌+◌, ◌^◌, ◌≤◌, ◌<◌, ◌≡◌, sym, ◌∙◌, Bool, true, List, arith, rules, not-true, not-false, Option}
 use Rattle.buddy.specs.Rules.{span}
 use Rattle.buddy.proofs.Spans.{span-in, span-out}
 use Rattle.pages.specs.Said.{said}
@@ -12,9 +11,10 @@ use Rattle.audit.proofs.Limit.{within-bounded}
 use Rattle.audit.proofs.Tiling.{block-from}
 use Rattle.audit.proofs.Walk.{Walk, walk-to, walk_more, few, block, block-ends, no_block, a_half, walk_ends}
 use Rattle.audit.proofs.survey.survey.Goals as goal
+use Rattle.words.specs.declared.word.PageInfo.{PageInfo}
 
 -- what the code reads of page p, the order that it takes from that, and what it asks of the block
-module _ {ws heads bs fs at : List ℕ} {a e b p o : ℕ} {d : Decoded} {t : Bool} (k : Within ws a e)
+module _ {ws heads bs fs at : List ℕ} {a e b p o : ℕ} {d : Option PageInfo} {t : Bool} (k : Within ws a e)
     (i : (a ≤ p) × Walk ws (span a e) e heads bs fs at b p) (high : p < e)
     (read : d ≡ said ws p) (order : o ≡ head_order d) (asked : t ≡ block_at ws (span p e) p o) where
   tested : block_at ws (span a e) p (head_order (said ws p)) ≡ t

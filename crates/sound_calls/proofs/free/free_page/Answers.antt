@@ -46,13 +46,13 @@ returns-in_default-order c =
 pub free_page_order-rest-requires : goal.free_page_order-rest-requires
 free_page_order-rest-requires c =
     let s = (goal.at.free_page_order-rest-requires c).In-Start in
-    let some = told (goal.at.free_page_order-rest-requires c).After-order_to_free-order ∙ c.in-At.is in
+    let some = told (goal.at.free_page_order-rest-requires c).After-order_to_free-order ∙ c.in-Some.is in
     free-ok (state s) _ _ c.if-pfn-region.false (start-in c.args.region _ _ (found s)) some
 
 pub returns : goal.returns
 unfolding at_page
 returns c =
     let s = (goal.at.returns c).In-Start in
-    let some = told (goal.at.returns c).After-order_to_free-order ∙ c.in-At.is in
+    let some = told (goal.at.returns c).After-order_to_free-order ∙ c.in-Some.is in
     ap (leaves (ok [])) c.free_page_order-rest.ensures
     ∙ (rw (found s, le-ltb _ _ c.if-pfn-region.false, some) at (free-code (state s) c.args.vaddr.0))

@@ -24,5 +24,5 @@ returns-in_default c =
 
 pub returns : goal.returns
 returns c =
-    rw (sym c.find_order-found.ensures ∙ c.in-At.is) at
+    rw (sym c.find_order-found.ensures ∙ c.in-Some.is) at
     (slab-bad (state (goal.at.returns c).After-good_item) c.args.item_size (sym c.good_item.ensures ∙ c.if-good_item.false))
