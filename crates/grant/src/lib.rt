@@ -7,15 +7,8 @@ ghost use Rattle.region.specs.State.{st, Gives};
 ghost use Rattle.region.specs.Steps.{lowest_from, SplitDownOk, split_down, RefillOk, refill, GrantOk, grant_page, grant};
 
 use pages::write_page_info;
-use region::HeapMemoryRegion;
+use region::{After, HeapMemoryRegion};
 use words::word::{MAX_ORDER, NO_PAGE, PageInfo};
-
-// The record, and the page granted.
-#[derive(Clone, Copy)]
-pub struct Granted {
-    pub region: HeapMemoryRegion,
-    pub page: Option<usize>,
-}
 
 // The lowest order from `order` on whose list is not empty.
 pub fn find_order(heads: [usize; 6], order: usize) -> Option<usize>
@@ -23,7 +16,7 @@ pub fn find_order(heads: [usize; 6], order: usize) -> Option<usize>
     ensures { result ≡ lowest_from (6 - order) order heads }
 {
     let mut ord = order;
-    let found = loop {
+    loop {
         if MAX_ORDER <= ord {
             break None;
         }
@@ -31,8 +24,7 @@ pub fn find_order(heads: [usize; 6], order: usize) -> Option<usize>
             break Some(ord);
         }
         ord += 1;
-    };
-    found
+    }
 }
 
 // Splits the head of list `from` down to list `order`, always taking the list's head.
@@ -46,16 +38,12 @@ pub fn split_down(
     ensures { st result words.new ≡ split_down order (from - order) (st region words.old) }
 {
     let mut rest = region;
-    let mut ord = from;
-    while order < ord {
-        let taken = rest.get_next_page(words, ord);
-        rest = taken.region;
-        let head = taken.head;
-        let Some(pfn) = head else {
-            return rest;
+    for ord in (order..from).rev() {
+        let taken = rest.get_next_page(words, ord + 1);
+        let Some(pfn) = taken.answer else {
+            return taken.region;
         };
-        rest = rest.split_page(words, pfn, ord);
-        ord -= 1;
+        rest = taken.region.split_page(words, pfn, ord + 1);
     }
     rest
 }
@@ -73,8 +61,7 @@ pub fn refill_page_list(
     if heads[order] != NO_PAGE {
         return region;
     }
-    let found = find_order(heads, order + 1);
-    let Some(from) = found else {
+    let Some(from) = find_order(heads, order + 1) else {
         return region;
     };
     split_down(region, words, from, order)
@@ -87,19 +74,14 @@ pub fn allocate_pages_info(
     words: &mut [u64],
     order: usize,
     info: PageInfo,
-) -> Granted
+) -> After<Option<usize>>
     requires { GrantOk order (st region words.old) }
-    ensures { Gives (grant_page order (st region words.old)) (grant order info (st region words.old)) result.page (st result.region words.new) }
+    ensures { Gives (grant_page order (st region words.old)) (grant order info (st region words.old)) result.answer (st result.region words.new) }
 {
     let filled = refill_page_list(region, words, order);
     let taken = filled.get_next_page(words, order);
-    let rest = taken.region;
-    let head = taken.head;
-    if let Some(pfn) = head {
+    if let Some(pfn) = taken.answer {
         write_page_info(words, pfn, info);
     }
-    Granted {
-        region: rest,
-        page: head,
-    }
+    taken
 }

@@ -17,12 +17,12 @@ returns-then-heads-order c =
 
 pub returns-in_default : goal.returns-in_default
 unfolding refill
-returns-in_default c = simp (higher _ _ c.requires.order c.if-heads-order.false ∙ sym c.find_order-found.ensures ∙ c.in_default.is)
+returns-in_default c = simp (higher _ _ c.requires.order c.if-heads-order.false ∙ sym c.find_order.ensures ∙ c.in_default.is)
 
 pub split_down-requires : goal.split_down-requires
-split_down-requires c = c.requires.down _ (higher _ _ c.requires.order c.if-heads-order.false ∙ sym c.find_order-found.ensures ∙ c.in-Some.is)
+split_down-requires c = c.requires.down _ (higher _ _ c.requires.order c.if-heads-order.false ∙ sym c.find_order.ensures ∙ c.in-Some.is)
 
 pub returns : goal.returns
 unfolding refill
 returns c =
-    simp (higher _ _ c.requires.order c.if-heads-order.false ∙ sym c.find_order-found.ensures ∙ c.in-Some.is) c.split_down.ensures
+    simp (higher _ _ c.requires.order c.if-heads-order.false ∙ sym c.find_order.ensures ∙ c.in-Some.is) c.split_down.ensures
