@@ -7,15 +7,8 @@ ghost use Rattle.region.specs.State.{st, Gives};
 ghost use Rattle.region.specs.Steps.{NeighborOk, neighbor, TryOk, try_page, try_join, FreeOk, free_from};
 
 use pages::{read_page_info, size};
-use region::HeapMemoryRegion;
+use region::{After, HeapMemoryRegion};
 use words::word::{MAX_ORDER, PageInfo};
-
-// The record, and the head of the merged block if there was a merge.
-#[derive(Clone, Copy)]
-pub struct Tried {
-    pub region: HeapMemoryRegion,
-    pub page: Option<usize>,
-}
 
 // The buddy of a block: below order 5, and inside a region of `page_count` pages.
 #[tactic(auto, unfolding(region::specs::Steps::neighbor))]
@@ -32,11 +25,7 @@ pub fn compound_neighbor(page_count: usize, pfn: usize, order: usize) -> Option<
     } else {
         pfn - half
     };
-    if mate < page_count {
-        Some(mate)
-    } else {
-        None
-    }
+    if mate < page_count { Some(mate) } else { None }
 }
 
 // Merges a block that is out with its buddy, if that is Free of the same order.
@@ -45,21 +34,18 @@ pub fn try_to_merge_page(
     words: &mut [u64],
     pfn: usize,
     order: usize,
-) -> Tried
+) -> After<Option<usize>>
     requires { TryOk pfn order (st region words.old) }
-    ensures { Gives (try_page pfn order (st region words.old)) (try_join pfn order (st region words.old)) result.page (st result.region words.new) }
+    ensures { Gives (try_page pfn order (st region words.old)) (try_join pfn order (st region words.old)) result.answer (st result.region words.new) }
 {
-    let kept = Tried {
-        region: region,
-        page: None,
+    let kept = After {
+        region,
+        answer: None,
     };
     let Some(neighbor_pfn) = compound_neighbor(region.page_count, pfn, order) else {
         return kept;
     };
-    let Some(info) = read_page_info(words, neighbor_pfn) else {
-        return kept;
-    };
-    let PageInfo::Free(fi) = info else {
+    let Some(PageInfo::Free(fi)) = read_page_info(words, neighbor_pfn) else {
         return kept;
     };
     if fi.order != order {
@@ -67,10 +53,9 @@ pub fn try_to_merge_page(
     }
     let pulled = region.allocate_pfn(words, neighbor_pfn, order);
     let merged = pulled.region.merge_pages(words, pfn, neighbor_pfn, order);
-    let rest = merged.region;
-    Tried {
-        region: rest,
-        page: Some(merged.page),
+    After {
+        region: merged.region,
+        answer: Some(merged.answer),
     }
 }
 
@@ -85,11 +70,9 @@ pub fn free_page_order(
     ensures { st result words.new ≡ free_from (5 - order) pfn order (st region words.old) }
 {
     let tried = try_to_merge_page(region, words, pfn, order);
-    let page = tried.page;
-    let Some(new_pfn) = page else {
+    let Some(new_pfn) = tried.answer else {
         // What did not merge is as it was.
         return region.free_page_raw(words, pfn, order);
     };
-    let rest = tried.region;
-    free_page_order(rest, words, new_pfn, order + 1)
+    free_page_order(tried.region, words, new_pfn, order + 1)
 }

@@ -46,10 +46,8 @@ pub fn grow_blocks(
 {
     let step = size(order);
     let mut next = region;
-    let mut i = 0;
-    while i < count {
+    for i in 0..count {
         next = grow_block(next, words, from + i * step, order);
-        i += 1;
     }
     next
 }

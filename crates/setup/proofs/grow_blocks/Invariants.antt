@@ -1,11 +1,8 @@
--- `i` blocks are made. The measure is what is left of `count`.
-use Rattle.common.specs.Kit.{◌-◌, ◌≤◌, ◌≡◌}
+-- `i` blocks are made.
+use Rattle.common.specs.Kit.{◌≡◌}
 use Rattle.region.specs.State.{st}
 use Rattle.setup.specs.Steps.{grow_blocks}
 use Rattle.setup.proofs.grow_blocks.Given as goal
 
 abbrev pub invariant-loop-i : goal.invariant-loop-i
-invariant-loop-i l = (l.i ≤ l.count) × (st l.next l.words ≡ grow_blocks l.order l.from l.i (st l.initial.next l.initial.words))
-
-abbrev pub decreases-loop-i : goal.decreases-loop-i
-decreases-loop-i l = l.count - l.i
+invariant-loop-i l = st l.next l.words ≡ grow_blocks l.order l.from l.i (st l.initial.next l.initial.words)
