@@ -3,7 +3,7 @@
 use Rattle.common.specs.Kit.{ℕ, ◌≡◌, refl, ap, ◌∙◌, ◌≢◌, ◌&&◌, List, eqb, length, eqb-true, eqb-false, ne_eqb}
 use Rattle.common.proofs.Tests.{by-test}
 use Rattle.buddy.specs.Request.{Request}
-use Rattle.sound_calls.specs.Answer.{Result}
+use Rattle.sound_calls.specs.Answer.{Effect}
 use Rattle.heap.specs.Promise.{empty_region, report_promise}
 use Rattle.heap.proofs.Sound.{refused-kept, set-up-refuses}
 use Rattle.abi.specs.Record.{packed, unpacked}
@@ -15,7 +15,7 @@ pub refused-left : (xs ws : List ℕ) (x : Request) → (call_left xs ws x).answ
 refused-left xs ws x = by-test (eqb (length xs) 21)
     (λ t. rw t (λ n.
     let same = refused-kept (unpacked xs) ws x n in
-    (ap (λ (y : Result). packed y.region) same ∙ packed-unpacked xs (eqb-true _ _ t), ap (λ (y : Result). y.words) same)))
+    (ap (λ (y : Effect). packed y.region) same ∙ packed-unpacked xs (eqb-true _ _ t), ap (λ (y : Effect). y.words) same)))
     (λ t. rw t (λ _. (refl, refl)))
 
 -- set-up: on a record of 21 numbers it leaves the empty one
@@ -25,7 +25,7 @@ pub refused-set-up : (xs ws : List ℕ) (start n a : ℕ) → (set_up_left xs ws
 refused-set-up xs ws start n a = by-test (eqb (length xs) 21)
     (λ t. rw t (λ k.
     let same = set-up-refuses (record { 0 = start }) n a ws k in
-    (λ _. ap (λ (y : Result). packed y.region) same, λ other. absurd (other (eqb-true _ _ t)), ap (λ (y : Result). y.words) same)))
+    (λ _. ap (λ (y : Effect). packed y.region) same, λ other. absurd (other (eqb-true _ _ t)), ap (λ (y : Effect). y.words) same)))
     (λ t. rw t (λ _. (λ is. absurd (eqb-false _ _ t is), λ _. refl, refl)))
 
 -- the report's twelve numbers

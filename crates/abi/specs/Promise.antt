@@ -3,7 +3,7 @@
 use Rattle.std.specs.Prelude.{ℕ, cond, ◌&&◌, List, [], ◌++◌, eqb, length}
 use Rattle.region.specs.declared.HeapMemoryRegion.{HeapMemoryRegion}
 use Rattle.buddy.specs.Request.{Request}
-use Rattle.sound_calls.specs.Answer.{ok, result_of, Result}
+use Rattle.sound_calls.specs.Answer.{ok, effect_of, Effect}
 use Rattle.sound_calls.specs.declared.Answer.{Answer}
 use Rattle.heap.specs.Promise.{empty_region, set_up_promise, promise, lookup_promise, audit_promise, report_promise}
 use Rattle.abi.specs.Answer.{answer_of, bad_buffer}
@@ -21,7 +21,7 @@ left a xs ws = record { answer = a; numbers = xs; words = ws }
 
 module _ (xs ws : List ℕ) where
   -- a call on the region of a record
-  abbrev pub on_record : (HeapMemoryRegion → Result) → Left
+  abbrev pub on_record : (HeapMemoryRegion → Effect) → Left
   on_record f = cond (eqb (length xs) 21)
       (let p = f (unpacked xs) in left (answer_of p.answer) (packed p.region) p.words)
       (left bad_buffer xs ws)
@@ -43,7 +43,7 @@ module _ (xs ws : List ℕ) where
   audit_answer = answer_on (λ r. audit_promise r ws)
 
 abbrev pub empty_left : List ℕ → Left
-empty_left xs = on_record xs [] (λ _. result_of (ok []) empty_region [])
+empty_left xs = on_record xs [] (λ _. effect_of (ok []) empty_region [])
 
 -- the report's twelve numbers, blocks and free blocks by order; a refusal leaves them
 pub record Reported : Type 0 where

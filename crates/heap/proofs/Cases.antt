@@ -9,7 +9,7 @@ use Rattle.buddy.specs.Rules.{lowest, split_head, refill, grant_head, grant_from
 use Rattle.region.specs.Layout.{max_pages}
 use Rattle.refine.specs.Image.{next_after, entry, shown, table as values, region_of, words_of, tag_said, walk, heap_of}
 use Rattle.audit.specs.Check.{all, all_say, block_at, tiles, is_free, chain, lower_half, keeps, sound_b}
-use Rattle.sound_calls.specs.Answer.{ok, no, Result}
+use Rattle.sound_calls.specs.Answer.{ok, no, Effect}
 use Rattle.sound_calls.specs.declared.Answer.{Answer}
 use Rattle.sound_calls.specs.Promise.{grants, slab_grants, at_page, does_at, does, looked_up, looks_up}
 use Rattle.buddy.specs.Request.{Request, for_block, for_file, for_slab, on, to_free, to_get, to_put}
@@ -20,11 +20,11 @@ unfoldable pub page : ℕ → ℕ
 page p = 1048576 + 4096 * p
 
 -- region R, set up on words that all were Reserved
-unfoldable pub R : Result
+unfoldable pub R : Effect
 R = set_up_promise (record { 0 = page 0 }) 64 3 (replicate 64 15)
 
 -- a call on what another left
-unfoldable pub then : Result → Request → Result
+unfoldable pub then : Effect → Request → Effect
 then x c = promise x.region x.words c
 
 -- calls one after the other, each with what it tells
@@ -32,7 +32,7 @@ abbrev Played : Type 0
 Played = List (Request × Answer)
 
 -- what they tell, whatever stands beside them, and what they leave
-play : Result → Played → Played × Result
+play : Effect → Played → Played × Effect
 play x [] = ([], x)
 play x (c ∷ cs) =
     let y = then x c.0 in
@@ -154,10 +154,10 @@ unfolding page R update remove page_at row decode_of mem_of cell first buddy pai
 damaged = refl
 
 -- what refutes useless heaps: R, order 1 granted once and twice and its page freed, a file page granted and put
-unfoldable pub one : Result
+unfoldable pub one : Effect
 one = then R (for_block 1)
 
-unfoldable pub filed : Result
+unfoldable pub filed : Effect
 filed = then R for_file
 
 pub record OnR : Type 0 where

@@ -7,7 +7,7 @@ use Rattle.buddy.proofs.Refill.{never}
 use Rattle.region.specs.Layout.{max_pages, alloc_pages, bare, Limits}
 use Rattle.setup.specs.Steps.{init_memory}
 use Rattle.setup.proofs.Init.{init-image}
-use Rattle.sound_calls.specs.Answer.{ok, no, refusal, Result}
+use Rattle.sound_calls.specs.Answer.{ok, no, refusal, Effect}
 use Rattle.sound_calls.specs.declared.Answer.{Answer}
 use Rattle.sound_calls.specs.Promise.{kept, became}
 use Rattle.sound_calls.specs.Code.{leaves}
@@ -57,7 +57,7 @@ module _ (start : VirtAddr) (n a : ℕ) (ws : List ℕ) where
   refuses-code e x = rw (set-up-refused start.0 n a (length ws) e x, x)
 
   -- the ways through the promise
-  pub set-up-results : (P : Result → Type 0)
+  pub set-up-results : (P : Effect → Type 0)
       → (Limits start.0 n a (length ws) → P (became (bare start n a) (set_up a (alloc_pages n)).heap (ok [])))
       → ((k : ℕ) → k ≢ 0 → P (kept empty_region ws (no k []))) → P (set_up_promise start n a ws)
   unfolding set_up_promise

@@ -1,15 +1,15 @@
 -- A promise fixes what its function answers and leaves: two results that meet it are equal, whatever call it is of. These are results.
 use Rattle.common.specs.Kit.{ℕ, ◌≡◌, sym, ap, ◌∙◌, List}
 use Rattle.region.specs.declared.HeapMemoryRegion.{HeapMemoryRegion}
-use Rattle.sound_calls.specs.Answer.{Result, result_of}
+use Rattle.sound_calls.specs.Answer.{Effect, effect_of}
 use Rattle.sound_calls.specs.declared.Answer.{Answer}
 use Rattle.sound_calls.proofs.Answers.{Sort, Enum, tell, dones, told-one, result-one}
 use Rattle.heap.specs.Promise.{Reported, reported}
 use Rattle.heap.specs.declared.Report.{Report}
 
 -- a call that answers with an enum of a sort, and leaves a record and words
-pub one-result : (p : Result) (s : Sort) (x y : Enum s) (r q : HeapMemoryRegion) (ws vs : List ℕ)
-    → result_of (tell s x) r ws ≡ p → result_of (tell s y) q vs ≡ p → (x ≡ y) × (r ≡ q) × (ws ≡ vs)
+pub one-result : (p : Effect) (s : Sort) (x y : Enum s) (r q : HeapMemoryRegion) (ws vs : List ℕ)
+    → effect_of (tell s x) r ws ≡ p → effect_of (tell s y) q vs ≡ p → (x ≡ y) × (r ≡ q) × (ws ≡ vs)
 one-result p s x y r q ws vs e f = result-one s (e ∙ sym f)
 
 -- a call that only answers

@@ -3,7 +3,7 @@
 use Rattle.common.specs.Kit.{ℕ, ◌≡◌, sym, ap, ◌∙◌, ◌≢◌, List, [], ◌∷◌, get_or, arith}
 use Rattle.words.specs.declared.place.VirtAddr.{VirtAddr}
 use Rattle.region.specs.declared.HeapMemoryRegion.{HeapMemoryRegion}
-use Rattle.sound_calls.specs.Answer.{ok, no, Result}
+use Rattle.sound_calls.specs.Answer.{ok, no, Effect}
 use Rattle.buddy.specs.Request.{for_block, on, to_free, to_put}
 use Rattle.sound_calls.specs.declared.Answer.{Answer}
 use Rattle.heap.specs.Promise.{set_up_promise, promise, audit_promise, Reported, reported, report_promise}
@@ -11,16 +11,16 @@ use Rattle.heap.specs.declared.Report.{Report}
 use Rattle.heap.proofs.Cases.{page, R, then, one, filed, on-R}
 
 -- a set-up that always refuses
-pub not-always-refused : (f : VirtAddr → ℕ → ℕ → List ℕ → Result) → ((s : VirtAddr) (n a : ℕ) (ws : List ℕ) → f s n a ws ≡ set_up_promise s n a ws)
+pub not-always-refused : (f : VirtAddr → ℕ → ℕ → List ℕ → Effect) → ((s : VirtAddr) (n a : ℕ) (ws : List ℕ) → f s n a ws ≡ set_up_promise s n a ws)
     → ((s : VirtAddr) (n a : ℕ) (ws : List ℕ) → (f s n a ws).answer.number ≢ 0) → ⊥
 unfolding R
-not-always-refused f keeps useless = useless _ 64 3 _ (ap (λ (x : Result). x.answer.number) (keeps _ 64 3 _) ∙ on-R.sets)
+not-always-refused f keeps useless = useless _ 64 3 _ (ap (λ (x : Effect). x.answer.number) (keeps _ 64 3 _) ∙ on-R.sets)
 
 -- a request that always answers 6, and one that always grants one page
-module _ (f : HeapMemoryRegion → List ℕ → ℕ → Result) (keeps : (r : HeapMemoryRegion) (ws : List ℕ) (o : ℕ) → f r ws o ≡ promise r ws (for_block o)) where
-  tells : (x : Result) → (f x.region x.words 1).answer ≡ (then x (for_block 1)).answer
+module _ (f : HeapMemoryRegion → List ℕ → ℕ → Effect) (keeps : (r : HeapMemoryRegion) (ws : List ℕ) (o : ℕ) → f r ws o ≡ promise r ws (for_block o)) where
+  tells : (x : Effect) → (f x.region x.words 1).answer ≡ (then x (for_block 1)).answer
   unfolding then
-  tells x = ap (λ (y : Result). y.answer) (keeps x.region x.words 1)
+  tells x = ap (λ (y : Effect). y.answer) (keeps x.region x.words 1)
 
   pub not-always-six : ((r : HeapMemoryRegion) (ws : List ℕ) (o : ℕ) → (f r ws o).answer ≡ no 6 []) → ⊥
   unfolding one
@@ -37,15 +37,15 @@ module _ (f : HeapMemoryRegion → List ℕ → ℕ → Result) (keeps : (r : He
       omega arith
 
 -- a call at an address that changes no word
-abbrev NotIdle : (HeapMemoryRegion → List ℕ → ℕ → Result) → Type 0
-NotIdle p = (f : HeapMemoryRegion → List ℕ → ℕ → Result) → ((r : HeapMemoryRegion) (ws : List ℕ) (a : ℕ) → f r ws a ≡ p r ws a)
+abbrev NotIdle : (HeapMemoryRegion → List ℕ → ℕ → Effect) → Type 0
+NotIdle p = (f : HeapMemoryRegion → List ℕ → ℕ → Effect) → ((r : HeapMemoryRegion) (ws : List ℕ) (a : ℕ) → f r ws a ≡ p r ws a)
     → ((r : HeapMemoryRegion) (ws : List ℕ) (a : ℕ) → (f r ws a).words ≡ ws) → ⊥
 
 -- it keeps no promise by which the word of some page q changes
-not-idle : (p : HeapMemoryRegion → List ℕ → ℕ → Result) (x : Result) (a q : ℕ)
+not-idle : (p : HeapMemoryRegion → List ℕ → ℕ → Effect) (x : Effect) (a q : ℕ)
     → get_or x.words q 0 ≢ get_or (p x.region x.words a).words q 0 → NotIdle p
 not-idle p x a q changes f keeps useless = changes (ap (λ (ws : List ℕ). get_or ws q 0)
-    (sym (useless x.region x.words a) ∙ ap (λ (y : Result). y.words) (keeps x.region x.words a)))
+    (sym (useless x.region x.words a) ∙ ap (λ (y : Effect). y.words) (keeps x.region x.words a)))
 
 pub not-idle-free : NotIdle (λ r ws a. promise r ws (on to_free a))
 unfolding then

@@ -7,7 +7,7 @@ use Rattle.buddy.specs.Request.{Request}
 use Rattle.region.specs.Layout.{max_pages, alloc_pages, bare}
 use Rattle.region.specs.declared.HeapMemoryRegion.{HeapMemoryRegion}
 use Rattle.audit.specs.Check.{sound_b}
-use Rattle.sound_calls.specs.Answer.{ok, no, done, Result}
+use Rattle.sound_calls.specs.Answer.{ok, no, done, Effect}
 use Rattle.sound_calls.specs.Promise.{kept, became, does, looks_up}
 use Rattle.sound_calls.specs.declared.Answer.{Answer}
 use Rattle.heap.specs.declared.Report.{Report}
@@ -26,7 +26,7 @@ set_up_answer start n a words =
     (no 1 [])
 
 -- SET-UP (C70, R52): a refusal returns the empty record and leaves every word; success depends on the words by their number alone
-unfoldable pub set_up_promise : VirtAddr → ℕ → ℕ → List ℕ → Result
+unfoldable pub set_up_promise : VirtAddr → ℕ → ℕ → List ℕ → Effect
 set_up_promise start n a ws =
     let t = set_up_answer start.0 n a (length ws) in
     cond (eqb t.number 0) (became (bare start n a) (set_up a (alloc_pages n)).heap t) (kept empty_region ws t)
@@ -50,7 +50,7 @@ module _ (r : HeapMemoryRegion) (ws : List ℕ) where
   audit_promise = cond (sound_b r ws) (ok []) damaged
 
   -- EVERY REQUEST. "Every public call but set-up, get_order, encode and decode audits soundness first" (C10, R4): refusal 4, and nothing changes
-  unfoldable pub promise : Request → Result
+  unfoldable pub promise : Request → Effect
   promise x = cond (sound_b r ws) (does r ws x) (kept r ws damaged)
 
   -- LOOKUP and REPORT (C80, C81); they take the words to read and hand back no record. A report has both count arrays; zeros with a refusal

@@ -1,7 +1,7 @@
 // The calls that grant, return and count pages. Each audits first, and hands on what the audit refuses.
 ghost use Rattle.std.specs.Prelude.{◌≡◌};
 ghost use Rattle.buddy.specs.Request.{for_block, for_file, for_slab, on, to_free, to_get, to_put};
-ghost use Rattle.sound_calls.specs.Answer.{result_of, done, grant, count};
+ghost use Rattle.sound_calls.specs.Answer.{effect_of, done, grant, count};
 ghost use Rattle.heap.specs.Promise.{promise};
 
 use crate::reads::audit;
@@ -12,7 +12,7 @@ use words::place::VirtAddr;
 // Grants a block of 2^order pages.
 #[tactic(auto, unfolding(crate::specs::Promise::promise))]
 pub fn allocate_pages(region: HeapMemoryRegion, words: &mut [u64], order: usize) -> Granted
-    ensures { result_of (grant result.answer) result.region words.new ≡ promise region words.old (for_block order) }
+    ensures { effect_of (grant result.answer) result.region words.new ≡ promise region words.old (for_block order) }
 {
     let Done::Refused(why) = audit(region, words) else {
         return sound_calls::grants::allocate_pages(region, words, order);
@@ -26,7 +26,7 @@ pub fn allocate_pages(region: HeapMemoryRegion, words: &mut [u64], order: usize)
 // Grants a file page, with count 1.
 #[tactic(auto, unfolding(crate::specs::Promise::promise))]
 pub fn allocate_file_page(region: HeapMemoryRegion, words: &mut [u64]) -> Granted
-    ensures { result_of (grant result.answer) result.region words.new ≡ promise region words.old for_file }
+    ensures { effect_of (grant result.answer) result.region words.new ≡ promise region words.old for_file }
 {
     let Done::Refused(why) = audit(region, words) else {
         return sound_calls::grants::allocate_file_page(region, words);
@@ -40,7 +40,7 @@ pub fn allocate_file_page(region: HeapMemoryRegion, words: &mut [u64]) -> Grante
 // Grants a slab page for items of a size.
 #[tactic(auto, unfolding(crate::specs::Promise::promise))]
 pub fn allocate_slab_page(region: HeapMemoryRegion, words: &mut [u64], item_size: u64) -> Granted
-    ensures { result_of (grant result.answer) result.region words.new ≡ promise region words.old (for_slab item_size) }
+    ensures { effect_of (grant result.answer) result.region words.new ≡ promise region words.old (for_slab item_size) }
 {
     let Done::Refused(why) = audit(region, words) else {
         return sound_calls::grants::allocate_slab_page(region, words, item_size);
@@ -54,7 +54,7 @@ pub fn allocate_slab_page(region: HeapMemoryRegion, words: &mut [u64], item_size
 // Frees the block at an address.
 #[tactic(auto, unfolding(crate::specs::Promise::promise))]
 pub fn free_page(region: HeapMemoryRegion, words: &mut [u64], vaddr: VirtAddr) -> Finished
-    ensures { result_of (done result.answer) result.region words.new ≡ promise region words.old (on to_free vaddr.0) }
+    ensures { effect_of (done result.answer) result.region words.new ≡ promise region words.old (on to_free vaddr.0) }
 {
     let Done::Refused(why) = audit(region, words) else {
         return sound_calls::free::free_page(region, words, vaddr);
@@ -68,7 +68,7 @@ pub fn free_page(region: HeapMemoryRegion, words: &mut [u64], vaddr: VirtAddr) -
 // One more reference to a file page; the record stays as it is.
 #[tactic(auto, unfolding(crate::specs::Promise::promise))]
 pub fn get_file_page(region: HeapMemoryRegion, words: &mut [u64], vaddr: VirtAddr) -> Count
-    ensures { result_of (count result) region words.new ≡ promise region words.old (on to_get vaddr.0) }
+    ensures { effect_of (count result) region words.new ≡ promise region words.old (on to_get vaddr.0) }
 {
     let Done::Refused(why) = audit(region, words) else {
         return sound_calls::files::get_file_page(region, words, vaddr);
@@ -79,7 +79,7 @@ pub fn get_file_page(region: HeapMemoryRegion, words: &mut [u64], vaddr: VirtAdd
 // One reference less to a file page; at 0 the page is free.
 #[tactic(auto, unfolding(crate::specs::Promise::promise))]
 pub fn put_file_page(region: HeapMemoryRegion, words: &mut [u64], vaddr: VirtAddr) -> Counted
-    ensures { result_of (count result.answer) result.region words.new ≡ promise region words.old (on to_put vaddr.0) }
+    ensures { effect_of (count result.answer) result.region words.new ≡ promise region words.old (on to_put vaddr.0) }
 {
     let Done::Refused(why) = audit(region, words) else {
         return sound_calls::files::put_file_page(region, words, vaddr);

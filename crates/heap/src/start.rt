@@ -1,6 +1,6 @@
 // Set-up of a region.
 ghost use Rattle.std.specs.Prelude.{◌≡◌};
-ghost use Rattle.sound_calls.specs.Answer.{result_of, done};
+ghost use Rattle.sound_calls.specs.Answer.{effect_of, done};
 ghost use Rattle.heap.specs.Promise.{empty_region, set_up_answer, set_up_promise};
 
 use region::{HeapMemoryRegion, alloc_pages, bare_region, pages_good};
@@ -46,7 +46,7 @@ pub fn root_mem_init(
     allocated: usize,
     words: &mut [u64],
 ) -> Finished
-    ensures { result_of (done result.answer) result.region words.new ≡ set_up_promise start_virt page_count allocated words.old }
+    ensures { effect_of (done result.answer) result.region words.new ≡ set_up_promise start_virt page_count allocated words.old }
 {
     let answer = set_up_answer(start_virt, page_count, allocated, words.len());
     let Done::Ok = answer else {

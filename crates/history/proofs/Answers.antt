@@ -13,7 +13,7 @@ use Rattle.region.specs.Layout.{managed}
 use Rattle.refine.specs.Image.{heap_of}
 use Rattle.region.specs.declared.HeapMemoryRegion.{HeapMemoryRegion}
 use Rattle.refine.proofs.Managed.{managed-below, boot-not-managed}
-use Rattle.sound_calls.specs.Answer.{ok, no, Result}
+use Rattle.sound_calls.specs.Answer.{ok, no, Effect}
 use Rattle.sound_calls.specs.declared.Answer.{Answer}
 use Rattle.sound_calls.specs.Promise.{max_count, grants, slab_grants, at_page, on_page, does_at, does}
 use Rattle.sound_calls.proofs.SoundInput.{SoundInput}
@@ -57,12 +57,12 @@ module _ {r : HeapMemoryRegion} {ws : List ℕ} (good : SoundInput r ws) where
   pub none-damaged : (c : Call) → (called r ws c).answer.number ≢ 4
   none-damaged c = go (called r ws c) (call-follows good c)
     where
-      go : (x : Result) → Follows r ws c x → x.answer.number ≢ 4
+      go : (x : Effect) → Follows r ws c x → x.answer.number ≢ 4
       go _ (stays t n _) = n
       go _ (moves t _ _ n _ _ _) = n
 
   -- a managed page is found by its address
-  on-address : {p : ℕ} → T (managed r ws p) → (f : ℕ → Result) → on_page r ws (address_in r p) f ≡ f p
+  on-address : {p : ℕ} → T (managed r ws p) → (f : ℕ → Effect) → on_page r ws (address_in r p) f ≡ f p
   unfolding at_page
   on-address {p} m f =
       let s = r.start_virt.0 in

@@ -20,7 +20,7 @@ use Rattle.refine.specs.Fit.{SoundFit}
 use Rattle.region.specs.Layout.{managed}
 use Rattle.audit.specs.Check.{sound_b}
 use Rattle.audit.proofs.Sound.{sound-decides}
-use Rattle.sound_calls.specs.Answer.{ok, Result}
+use Rattle.sound_calls.specs.Answer.{ok, Effect}
 use Rattle.sound_calls.specs.declared.Answer.{Answer}
 use Rattle.sound_calls.specs.Promise.{kept, became, layout_of, does, looked_up, looks_up}
 use Rattle.sound_calls.proofs.SoundInput.{SoundInput, fit}
@@ -104,7 +104,7 @@ layout-told a (Some (Reserved ri)) = omega arith
 layout-told a None = omega arith
 
 -- what a call answers and leaves
-pub data Follows (r : HeapMemoryRegion) (ws : List ℕ) (c : Call) : Result → Type 0 where
+pub data Follows (r : HeapMemoryRegion) (ws : List ℕ) (c : Call) : Effect → Type 0 where
   stays : (t : Answer) → t.number ≢ 4 → noted c t ≡ [] → Follows r ws c (kept r ws t)
   moves : (t : Answer) {g : Heap} (x : Request) (a : ModelAnswer) → t.number ≢ 4 → Model.call (managed r ws) (heap_of r ws) x ≡ outcome g a
       → SoundFit (managed r ws) r g → noted c t ≡ map (renamed (address_in r)) (Model.written x a) → Follows r ws c (became r g t)
@@ -127,14 +127,14 @@ module _ {r : HeapMemoryRegion} {ws : List ℕ} (good : SoundInput r ws) where
       → Answers (moved p x) a → Tells r ws a t → t ≡ ok vs → P) → P
   by-success {P} x vs e then = go (does r ws x) (outcomes good x) (rw (does-promised x) at e)
     where
-      go : (y : Result) → Way r ws x y → y.answer ≡ ok vs → P
+      go : (y : Effect) → Way r ws x y → y.answer ≡ ok vs → P
       go _ (refuse f) e = absurd (omega (arith, refuses-number f, ap (λ (t : Answer). t.number) e))
       go _ (succeed p g a {t} s c tells f) e = then p a t s (ap (λ (y : Outcome). y.answer) c) (said-answers c tells) tells e
 
   request-follows : (x : Request) → Follows r ws (request x) (promise r ws x)
   request-follows x = rw (does-promised x) (go (does r ws x) (outcomes good x))
     where
-      go : (y : Result) → Way r ws x y → Follows r ws (request x) y
+      go : (y : Effect) → Way r ws x y → Follows r ws (request x) y
       go _ (refuse {t} f) = let n = refuses-number f in stays t (omega arith) (unwritten x t (omega arith))
       go _ (succeed p g a {t} s e tells f) =
           let n = tells-number tells in

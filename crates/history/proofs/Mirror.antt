@@ -12,7 +12,7 @@ use Rattle.region.specs.declared.HeapMemoryRegion.{HeapMemoryRegion}
 use Rattle.refine.proofs.Inverse.{write-typed, write_read, write-sound}
 use Rattle.refine.proofs.Step.{Lent}
 use Rattle.refine.proofs.Fresh.{fresh-fit}
-use Rattle.sound_calls.specs.Answer.{Result}
+use Rattle.sound_calls.specs.Answer.{Effect}
 use Rattle.sound_calls.proofs.SoundInput.{SoundInput, lent, write-input}
 use Rattle.region.specs.Layout.{bare}
 use Rattle.heap.proofs.SetUps.{set-up-results}
@@ -55,7 +55,7 @@ module _ {m : Moment} {xs : List Request} (k : Mirror m xs) (c : Call) where
   unfolding next Model.after Model.next region_of
   next-mirror = go (called r m.words c) (call-follows k.good c)
     where
-      go : (x : Result) → Follows r m.words c x
+      go : (x : Effect) → Follows r m.words c x
           → (ys : List Request) × Mirror (record { region = x.region; words = x.words; log = noted c x.answer ++ m.log }) ys
       go _ (stays t _ e) = (xs, rw e k)
       go _ (moves t {g = g} x a _ e f w) = (

@@ -5,7 +5,7 @@ use Rattle.words.specs.declared.place.VirtAddr.{VirtAddr}
 use Rattle.buddy.specs.Request.{Request}
 use Rattle.buddy.specs.History.{Event, event}
 use Rattle.region.specs.declared.HeapMemoryRegion.{HeapMemoryRegion}
-use Rattle.sound_calls.specs.Answer.{Result, result_of}
+use Rattle.sound_calls.specs.Answer.{Effect, effect_of}
 use Rattle.sound_calls.specs.declared.Answer.{Answer}
 use Rattle.heap.specs.Promise.{set_up_promise, promise, lookup_promise, report_promise, audit_promise}
 
@@ -16,11 +16,11 @@ pub data Call : Type 0 where
   report audit : Call
 
 -- what a call answers and leaves, by its promise
-abbrev pub called : HeapMemoryRegion → List ℕ → Call → Result
+abbrev pub called : HeapMemoryRegion → List ℕ → Call → Effect
 called r ws (request x) = promise r ws x
-called r ws (lookup a) = result_of (lookup_promise r ws a) r ws
-called r ws report = result_of (report_promise r ws).answer r ws
-called r ws audit = result_of (audit_promise r ws) r ws
+called r ws (lookup a) = effect_of (lookup_promise r ws a) r ws
+called r ws report = effect_of (report_promise r ws).answer r ws
+called r ws audit = effect_of (audit_promise r ws) r ws
 
 -- "Write down only grants and returns that succeeded; a put is a return when it answers 0" (H2). The events are those of the model, with addresses
 -- for pages: blocks are named by their addresses, and gets and other puts are written for the counts

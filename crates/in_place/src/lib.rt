@@ -5,7 +5,7 @@
 
 ghost use Rattle.std.specs.Prelude.{◌≡◌};
 ghost use Rattle.buddy.specs.Request.{for_block, on, to_free, to_put};
-ghost use Rattle.sound_calls.specs.Answer.{result_of, done, grant, count};
+ghost use Rattle.sound_calls.specs.Answer.{effect_of, done, grant, count};
 ghost use Rattle.heap.specs.Promise.{promise};
 
 use region::HeapMemoryRegion;
@@ -13,7 +13,7 @@ use sound_calls::{Count, Done, Grant};
 use words::place::VirtAddr;
 
 pub fn allocate_pages(region: &mut HeapMemoryRegion, words: &mut [u64], order: usize) -> Grant
-    ensures { result_of (grant result) region.new words.new ≡ promise region.old words.old (for_block order) }
+    ensures { effect_of (grant result) region.new words.new ≡ promise region.old words.old (for_block order) }
 {
     let kept = *region;
     let granted = heap::requests::allocate_pages(kept, words, order);
@@ -22,7 +22,7 @@ pub fn allocate_pages(region: &mut HeapMemoryRegion, words: &mut [u64], order: u
 }
 
 pub fn free_page(region: &mut HeapMemoryRegion, words: &mut [u64], vaddr: VirtAddr) -> Done
-    ensures { result_of (done result) region.new words.new ≡ promise region.old words.old (on to_free vaddr.0) }
+    ensures { effect_of (done result) region.new words.new ≡ promise region.old words.old (on to_free vaddr.0) }
 {
     let kept = *region;
     let finished = heap::requests::free_page(kept, words, vaddr);
@@ -31,7 +31,7 @@ pub fn free_page(region: &mut HeapMemoryRegion, words: &mut [u64], vaddr: VirtAd
 }
 
 pub fn put_file_page(region: &mut HeapMemoryRegion, words: &mut [u64], vaddr: VirtAddr) -> Count
-    ensures { result_of (count result) region.new words.new ≡ promise region.old words.old (on to_put vaddr.0) }
+    ensures { effect_of (count result) region.new words.new ≡ promise region.old words.old (on to_put vaddr.0) }
 {
     let kept = *region;
     let counted = heap::requests::put_file_page(kept, words, vaddr);

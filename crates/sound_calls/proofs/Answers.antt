@@ -1,25 +1,27 @@
 -- What is told of an answer fixes it: an answer is read back from the number and the values that it tells.
 use Rattle.common.specs.Kit.{ℕ, ◌≡◌, refl, sym, ap, ◌∙◌, cond, List, [], ◌∷◌, eqb, get_or}
+use Rattle.std.specs.Prelude.{Result, Ok, Err, unwrap_or}
 use Rattle.words.specs.declared.place.VirtAddr.{VirtAddr}
 use Rattle.region.specs.declared.HeapMemoryRegion.{HeapMemoryRegion}
-use Rattle.sound_calls.specs.Answer.{refusal, done, grant, count, layout, Result, result_of}
+use Rattle.sound_calls.specs.Answer.{refusal, done, grant, count, layout, Effect, effect_of}
 use Rattle.sound_calls.specs.declared.Answer.{Answer}
 use Rattle.sound_calls.specs.declared.AllocError.{AllocError}
 use Rattle.sound_calls.specs.declared.AllocError.TheVariants.{BadCount, BadStart, TooManyBoot, Damaged, InvalidPageOrder, OutOfMemory, InvalidHeapAddress, BootPage, InvalidPageType, InvalidFilePage, RefFull, InvalidItem}
-use Rattle.sound_calls.specs.declared.Done.{Done}
-use Rattle.sound_calls.specs.declared.Grant.{Grant}
-use Rattle.sound_calls.specs.declared.Count.{Count}
-use Rattle.sound_calls.specs.declared.Layout.{Layout}
+use Rattle.sound_calls.specs.declared.SizeAlign.{SizeAlign}
 
 -- the sorts of answer, and what each tells
 pub data Sort : Type 0 where
   dones grants counts layouts : Sort
 
+-- what an answer of a sort carries that is no refusal
+abbrev pub Value : Sort → Type 0
+Value dones = Unit {0}
+Value grants = VirtAddr
+Value counts = ℕ
+Value layouts = SizeAlign
+
 abbrev pub Enum : Sort → Type 0
-Enum dones = Done
-Enum grants = Grant
-Enum counts = Count
-Enum layouts = Layout
+Enum s = Result (Value s) AllocError
 
 abbrev pub tell : (s : Sort) → Enum s → Answer
 tell dones = done
@@ -27,18 +29,12 @@ tell grants = grant
 tell counts = count
 tell layouts = layout
 
--- an answer is refused, or made of its values, of which it has at most two
-abbrev refused : (s : Sort) → AllocError → Enum s
-refused dones e = Done.Refused e
-refused grants e = Grant.Refused e
-refused counts e = Count.Refused e
-refused layouts e = Layout.Refused e
-
-abbrev made : (s : Sort) → ℕ → ℕ → Enum s
-made dones v w = Done.Ok
-made grants v w = Grant.At (record { 0 = v })
-made counts v w = Count.Is v
-made layouts v w = Layout.Is (record { size = v; align = w })
+-- an answer is made of its values, of which it has at most two
+abbrev made : (s : Sort) → ℕ → ℕ → Value s
+made dones v w = tt
+made grants v w = record { 0 = v }
+made counts v w = v
+made layouts v w = record { size = v; align = w }
 
 -- the refusals by their numbers, from 1 on, with the value v where they carry one
 refusals : ℕ → List AllocError
@@ -50,10 +46,10 @@ refusals v =
 -- the answer that tells t
 read : (s : Sort) → Answer → Enum s
 read s t =
-    let v = t.value in
-    cond (eqb t.number 0) (made s v t.second) (refused s (get_or (refusals v) t.number BadCount))
+    let v = unwrap_or t.value 0 in
+    cond (eqb t.number 0) (Ok (made s v (unwrap_or t.second 0))) (Err (get_or (refusals v) t.number BadCount))
 
-read-refusal : (s : Sort) (e : AllocError) → read s (refusal e) ≡ refused s e
+read-refusal : (s : Sort) (e : AllocError) → read s (refusal e) ≡ Err e
 unfolding read refusals
 read-refusal s BadCount = refl
 read-refusal s BadStart = refl
@@ -70,24 +66,24 @@ read-refusal s (InvalidItem i) = refl
 
 read_told : (s : Sort) (x : Enum s) → read s (tell s x) ≡ x
 unfolding read
-read_told dones Done.Ok = refl
-read_told dones (Done.Refused e) = read-refusal dones e
-read_told grants (Grant.At a) = refl
-read_told grants (Grant.Refused e) = read-refusal grants e
-read_told counts (Count.Is n) = refl
-read_told counts (Count.Refused e) = read-refusal counts e
-read_told layouts (Layout.Is l) = refl
-read_told layouts (Layout.Refused e) = read-refusal layouts e
+read_told dones (Ok _) = refl
+read_told dones (Err e) = read-refusal dones e
+read_told grants (Ok a) = refl
+read_told grants (Err e) = read-refusal grants e
+read_told counts (Ok n) = refl
+read_told counts (Err e) = read-refusal counts e
+read_told layouts (Ok l) = refl
+read_told layouts (Err e) = read-refusal layouts e
 
 -- ONE ANSWER
 pub told-one : (s : Sort) (x y : Enum s) → tell s x ≡ tell s y → x ≡ y
 told-one s x y e = sym (read_told s x) ∙ ap (read s) e ∙ read_told s y
 
 -- and so what a result tells and leaves fixes it
-pub result-one : (s : Sort) {x y : Enum s} {r q : HeapMemoryRegion} {ws vs : List ℕ} → result_of (tell s x) r ws ≡ result_of (tell s y) q vs
+pub result-one : (s : Sort) {x y : Enum s} {r q : HeapMemoryRegion} {ws vs : List ℕ} → effect_of (tell s x) r ws ≡ effect_of (tell s y) q vs
     → (x ≡ y) × (r ≡ q) × (ws ≡ vs)
 result-one s {x} {y} e = (
-  told-one s x y (ap (λ (z : Result). z.answer) e),
-  ap (λ (z : Result). z.region) e,
-  ap (λ (z : Result). z.words) e,
+  told-one s x y (ap (λ (z : Effect). z.answer) e),
+  ap (λ (z : Effect). z.region) e,
+  ap (λ (z : Effect). z.words) e,
 )

@@ -20,7 +20,7 @@ use Rattle.refine.proofs.Shown.{head-zero}
 use Rattle.refine.proofs.Step.{Rule}
 use Rattle.refine.proofs.Label.{label-image, label-fit}
 use Rattle.sound_calls.specs.Files.{got_count, got_words, put_count, put_state, PutFileOk}
-use Rattle.sound_calls.specs.Answer.{ok, result_of}
+use Rattle.sound_calls.specs.Answer.{ok, effect_of}
 use Rattle.sound_calls.specs.Promise.{max_count, on_page, does_at, does}
 use Rattle.sound_calls.specs.Code.{leaves}
 use Rattle.sound_calls.proofs.SoundInput.{SoundInput, fit, is-image}
@@ -73,7 +73,7 @@ module _ {r : HeapMemoryRegion} {ws : List ℕ} (good : SoundInput r ws) where
     last = λ n e _. (out-frees good (file-out (said-file good.sound p n l e))).ok;
   }
 
-  pub get-code : (a : ℕ) → on_page r ws a (λ p. result_of (got_count a p ws) r (got_words p ws)) ≡ does r ws (on to_get a)
+  pub get-code : (a : ℕ) → on_page r ws a (λ p. effect_of (got_count a p ws) r (got_words p ws)) ≡ does r ws (on to_get a)
   unfolding does does_at got_count got_words
   get-code a = on_same r ws a _ _ (λ p l. by-file (said ws p)
       (λ n e. rw e (by-test (leb max_count n)

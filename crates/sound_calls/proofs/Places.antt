@@ -9,7 +9,7 @@ use Rattle.buddy.proofs.Refill.{never}
 use Rattle.pages.specs.Said.{said}
 use Rattle.region.specs.Sound.{Sound}
 use Rattle.region.specs.declared.HeapMemoryRegion.{HeapMemoryRegion}
-use Rattle.sound_calls.specs.Answer.{ok, no, grant, Result}
+use Rattle.sound_calls.specs.Answer.{ok, no, grant, Effect}
 use Rattle.sound_calls.specs.Promise.{kept, layout_of, at_page, on_page, looked_up, looks_up}
 use Rattle.sound_calls.specs.Code.{address_grant}
 
@@ -43,7 +43,7 @@ address-told {r} sound p l =
 
 -- the ways through a call on the page at an address
 module _ (r : HeapMemoryRegion) (ws : List ℕ) (a : ℕ) where
-  pub by_place : (f : ℕ → Result) (P : Result → Type 0) → ((p : PageNumber) → place r a ≡ Start p → P (f p.0))
+  pub by_place : (f : ℕ → Effect) (P : Effect → Type 0) → ((p : PageNumber) → place r a ≡ Start p → P (f p.0))
       → (((p : PageNumber) → place r a ≢ Start p) → P (kept r ws (no 7 (a ∷ [])))) → P (on_page r ws a f)
   unfolding at_page
   by_place f P on off = go (place r a) refl
@@ -54,7 +54,7 @@ module _ (r : HeapMemoryRegion) (ws : List ℕ) (a : ℕ) where
       go PageAt.Outside e = off (λ q d. never (cc))
 
   -- two calls that agree on the region's pages
-  pub on_same : (f g : ℕ → Result) → ((p : ℕ) → p < r.page_count → f p ≡ g p) → on_page r ws a f ≡ on_page r ws a g
+  pub on_same : (f g : ℕ → Effect) → ((p : ℕ) → p < r.page_count → f p ≡ g p) → on_page r ws a f ≡ on_page r ws a g
   unfolding at_page
   on_same f g same = go (place r a) (starts _ _ a)
     where

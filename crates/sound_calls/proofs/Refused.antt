@@ -10,24 +10,24 @@ use Rattle.pages.specs.Meaning.{if_file}
 use Rattle.pages.proofs.Patterns.{by-file}
 use Rattle.buddy.specs.Heap.{good_item}
 use Rattle.region.specs.declared.HeapMemoryRegion.{HeapMemoryRegion}
-use Rattle.sound_calls.specs.Answer.{Result}
+use Rattle.sound_calls.specs.Answer.{Effect}
 use Rattle.sound_calls.specs.declared.Answer.{Answer}
 use Rattle.sound_calls.specs.Promise.{kept, may_free, max_count, grants, slab_grants, at_page, does_at, does}
 use Rattle.words.specs.declared.word.PageInfo.{PageInfo}
 
 module _ (r : HeapMemoryRegion) (ws : List ℕ) where
   -- if it is a refusal, nothing changed
-  pub record Stays (x : Result) : Type 0 where
+  pub record Stays (x : Effect) : Type 0 where
     pub same : x.answer.number ≢ 0 → x ≡ kept r ws x.answer
 
   pub refuses : (t : Answer) → Stays (kept r ws t)
   refuses t = record { same = λ _. refl }
 
-  succeeds : {x : Result} → x.answer.number ≡ 0 → Stays x
+  succeeds : {x : Effect} → x.answer.number ≡ 0 → Stays x
   succeeds e = record { same = λ n. absurd (n e) }
 
   -- one of two answers
-  pub either_stays : (b : Bool) {x y : Result} → Stays x → Stays y → Stays (cond b x y)
+  pub either_stays : (b : Bool) {x y : Effect} → Stays x → Stays y → Stays (cond b x y)
   either_stays true s t = s
   either_stays false s t = t
 
@@ -41,13 +41,13 @@ module _ (r : HeapMemoryRegion) (ws : List ℕ) where
   slab-stays i refused = grants-stay 0 refused
   slab-stays i (granted h c) = either_stays (good_item i) (grants-stay 0 (granted h c)) (refuses _)
 
-  place-stays : (a : ℕ) (x : PageAt) {f : ℕ → Result} → ((p : ℕ) → Stays (f p)) → Stays (at_page r ws a x f)
+  place-stays : (a : ℕ) (x : PageAt) {f : ℕ → Effect} → ((p : ℕ) → Stays (f p)) → Stays (at_page r ws a x f)
   unfolding at_page
   place-stays a (Start p) s = s p.0
   place-stays a (Within p) s = refuses _
   place-stays a PageAt.Outside s = refuses _
 
-  file-stays : (d : Option PageInfo) {f : ℕ → Result} {y : Result} → ((n : ℕ) → Stays (f n)) → Stays y → Stays (if_file d f y)
+  file-stays : (d : Option PageInfo) {f : ℕ → Effect} {y : Effect} → ((n : ℕ) → Stays (f n)) → Stays y → Stays (if_file d f y)
   file-stays d s t = by-file d (λ n e. rw e (s n)) (λ other. simp other t)
 
   pub does_stays : (x : Request) → Stays (does r ws x)

@@ -12,7 +12,7 @@ use Rattle.refine.specs.Image.{heap_of}
 use Rattle.region.specs.declared.HeapMemoryRegion.{HeapMemoryRegion}
 use Rattle.refine.specs.Fit.{SoundFit}
 use Rattle.region.specs.Layout.{managed}
-use Rattle.sound_calls.specs.Answer.{ok, no, Result}
+use Rattle.sound_calls.specs.Answer.{ok, no, Effect}
 use Rattle.sound_calls.specs.Promise.{kept, became, max_count}
 use Rattle.sound_calls.specs.declared.Answer.{Answer}
 use Rattle.sound_calls.proofs.Places.{place}
@@ -46,7 +46,7 @@ module _ (r : HeapMemoryRegion) (ws : List ℕ) where
     tells-page : {p : ℕ} → Tells (page p) (ok ((r.start_virt.0 + 4096 * p) ∷ []))
     tells-count : {n : ℕ} → Tells (counted n) (ok (n ∷ []))
 
-  pub data Way (x : Request) : Result → Type 0 where
+  pub data Way (x : Request) : Effect → Type 0 where
     refuse : {t : Answer} → Refuses x t → Way x (kept r ws t)
     succeed : (p : ℕ) (g : Heap) (a : ModelAnswer) {t : Answer} → Starts x p → call (managed r ws) h (moved p x) ≡ outcome g a → Tells a t
         → SoundFit (managed r ws) r g → Way x (became r g t)

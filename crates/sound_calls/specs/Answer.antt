@@ -1,18 +1,16 @@
--- Answers as numbers: the number of a refusal, 0 for none, how many values it carries, and these. Promises are stated in these terms. What each
--- case of the code's enums tells stands here, and in `of_refusal` of the code.
-use Rattle.std.specs.Prelude.{ℕ, List, [], ◌∷◌, length, get_or}
+-- Answers as numbers: the number of a refusal, 0 for none, and the values that it carries. Promises are stated in these terms. What each refusal
+-- tells stands here, and in `From<AllocError> for Answer` of the code.
+use Rattle.std.specs.Prelude.{ℕ, List, [], ◌∷◌, slice_get, Result, Ok, Err}
+use Rattle.words.specs.declared.place.VirtAddr.{VirtAddr}
 use Rattle.region.specs.declared.HeapMemoryRegion.{HeapMemoryRegion}
 use Rattle.sound_calls.specs.declared.Answer.{Answer}
 use Rattle.sound_calls.specs.declared.AllocError.{AllocError}
 use Rattle.sound_calls.specs.declared.AllocError.TheVariants.{BadCount, BadStart, TooManyBoot, Damaged, InvalidPageOrder, OutOfMemory, InvalidHeapAddress, BootPage, InvalidPageType, InvalidFilePage, RefFull, InvalidItem}
-use Rattle.sound_calls.specs.declared.Done.{Done}
-use Rattle.sound_calls.specs.declared.Grant.{Grant}
-use Rattle.sound_calls.specs.declared.Count.{Count}
-use Rattle.sound_calls.specs.declared.Layout.{Layout}
+use Rattle.sound_calls.specs.declared.SizeAlign.{SizeAlign}
 
 -- refusal k, and a call that succeeded, with what they carry: two values at most
 abbrev pub no : ℕ → List ℕ → Answer
-no k vs = record { number = k; carries = length vs; value = get_or vs 0 0; second = get_or vs 1 0 }
+no k vs = record { number = k; value = slice_get vs 0; second = slice_get vs 1 }
 
 abbrev pub ok : List ℕ → Answer
 ok vs = no 0 vs
@@ -32,31 +30,32 @@ refusal (InvalidFilePage a) = no 10 (a.0 ∷ [])
 refusal (RefFull a) = no 11 (a.0 ∷ [])
 refusal (InvalidItem i) = no 12 (i ∷ [])
 
+-- an answer tells the values of what it is, or its refusal
+abbrev pub told : {A : Type 0} → (A → List ℕ) → Result A AllocError → Answer
+told values (Ok x) = ok (values x)
+told values (Err e) = refusal e
+
 -- "A free that succeeds answers nothing more" (R53); so does a set-up, and an audit of what is sound
-abbrev pub done : Done → Answer
-done Done.Ok = ok []
-done (Done.Refused e) = refusal e
+abbrev pub done : Result (Unit {0}) AllocError → Answer
+done = told (λ _. [])
 
 -- the address granted
-abbrev pub grant : Grant → Answer
-grant (Grant.At a) = ok (a.0 ∷ [])
-grant (Grant.Refused e) = refusal e
+abbrev pub grant : Result VirtAddr AllocError → Answer
+grant = told (λ a. a.0 ∷ [])
 
 -- the count after a get or a put
-abbrev pub count : Count → Answer
-count (Count.Is n) = ok (n ∷ [])
-count (Count.Refused e) = refusal e
+abbrev pub count : Result ℕ AllocError → Answer
+count = told (λ n. n ∷ [])
 
 -- size and alignment
-abbrev pub layout : Layout → Answer
-layout (Layout.Is l) = ok (l.size ∷ l.align ∷ [])
-layout (Layout.Refused e) = refusal e
+abbrev pub layout : Result SizeAlign AllocError → Answer
+layout = told (λ l. l.size ∷ l.align ∷ [])
 
 -- what a call answers and leaves
-pub record Result : Type 0 where
+pub record Effect : Type 0 where
   pub answer : Answer
   pub region : HeapMemoryRegion
   pub words : List ℕ
 
-abbrev pub result_of : Answer → HeapMemoryRegion → List ℕ → Result
-result_of t r ws = record { answer = t; region = r; words = ws }
+abbrev pub effect_of : Answer → HeapMemoryRegion → List ℕ → Effect
+effect_of t r ws = record { answer = t; region = r; words = ws }

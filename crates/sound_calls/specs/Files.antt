@@ -1,5 +1,8 @@
 -- The count of a file page on its word: rules C61 and C62, as the code makes them. The page stands at address a.
-use Rattle.std.specs.Prelude.{ℕ, ◌+◌, ◌-◌, ◌≤◌, ◌<◌, ◌≡◌, cond, List, [], ◌∷◌, leb, length, set, Some}
+use Rattle.std.specs.Prelude.{ℕ, ◌+◌, ◌-◌, ◌≤◌, ◌<◌, ◌≡◌, cond, List, [], ◌∷◌, leb, length, set, Option, Some, Result, Ok, Err}
+use Rattle.words.specs.declared.place.VirtAddr.{VirtAddr}
+use Rattle.words.specs.declared.word.FileInfo.{FileInfo}
+use Rattle.words.specs.declared.word.PageInfo.{PageInfo}
 use Rattle.words.specs.Word.{mem_of}
 use Rattle.pages.specs.Info.{file_info}
 use Rattle.pages.specs.Said.{said}
@@ -9,6 +12,12 @@ use Rattle.region.specs.Steps.{write, FreeOk, free_from}
 use Rattle.sound_calls.specs.Answer.{ok, no}
 use Rattle.sound_calls.specs.Promise.{max_count}
 use Rattle.sound_calls.specs.declared.Answer.{Answer}
+use Rattle.sound_calls.specs.declared.AllocError.{AllocError}
+use Rattle.sound_calls.specs.declared.AllocError.TheVariants.{InvalidFilePage}
+
+-- file_at: what a word says of a file page; refusal 10 for any other
+abbrev pub file_at : VirtAddr → Option PageInfo → Result FileInfo AllocError
+file_at a d = if_file d (λ n. Ok (record { ref_count = n })) (Err (InvalidFilePage a))
 
 -- get_at: one more, unless the count is full
 unfoldable pub got_count : ℕ → ℕ → List ℕ → Answer

@@ -2,10 +2,10 @@
 // For the crate `heap`, and for whatever audits once and then calls often. Below it stand `grant` and `release`.
 #![tactic(auto)]
 
-ghost use Rattle.std.specs.Prelude.{◌≡◌, [], ◌∷◌};
-ghost use Rattle.sound_calls.specs.Answer.{no, refusal, done, grant, count, layout};
+ghost use Rattle.std.specs.Prelude.{ℕ, ◌≡◌, List, [], ◌∷◌};
+ghost use Rattle.sound_calls.specs.Answer.{no, ok, refusal, told};
 
-use region::HeapMemoryRegion;
+use region::{After, HeapMemoryRegion};
 use words::place::VirtAddr;
 
 pub mod files;
@@ -14,7 +14,7 @@ pub mod grants;
 pub mod lookup;
 
 // Why a call is refused, with what each carries (R1 to R12).
-#[derive(Clone, Copy)]
+#[derive(Clone, Copy, Debug, PartialEq, Eq)]
 pub enum AllocError {
     BadCount,
     BadStart,
@@ -30,76 +30,38 @@ pub enum AllocError {
     InvalidItem(u64),
 }
 
-// The answer of a call that has nothing to say but that it succeeded.
-#[derive(Clone, Copy)]
-pub enum Done {
-    Ok,
-    Refused(AllocError),
-}
-
-// The address granted.
-#[derive(Clone, Copy)]
-pub enum Grant {
-    At(VirtAddr),
-    Refused(AllocError),
-}
-
-// The count of a file page after a get or a put.
-#[derive(Clone, Copy)]
-pub enum Count {
-    Is(u64),
-    Refused(AllocError),
-}
-
-#[derive(Clone, Copy)]
+// The layout of a granted block.
+#[derive(Clone, Copy, Debug, PartialEq, Eq)]
 pub struct SizeAlign {
     pub size: u64,
     pub align: u64,
 }
 
-// The layout of a granted block.
-#[derive(Clone, Copy)]
-pub enum Layout {
-    Is(SizeAlign),
-    Refused(AllocError),
+// A call that is refused hands the record back as it was.
+pub fn refuse<T>(region: HeapMemoryRegion, why: AllocError) -> After<Result<T, AllocError>>
+    ensures { result ≡ record { region = region; answer = Err why } }
+{
+    After {
+        region,
+        answer: Err(why),
+    }
 }
 
-// Answers with the record beside them.
-#[derive(Clone, Copy)]
-pub struct Finished {
-    pub region: HeapMemoryRegion,
-    pub answer: Done,
-}
-
-#[derive(Clone, Copy)]
-pub struct Granted {
-    pub region: HeapMemoryRegion,
-    pub answer: Grant,
-}
-
-#[derive(Clone, Copy)]
-pub struct Counted {
-    pub region: HeapMemoryRegion,
-    pub answer: Count,
-}
-
-// An answer as numbers: 0 or the number of its refusal, how many values it carries, and these; 0 where it carries less.
-#[derive(Clone, Copy)]
+// An answer as numbers: 0 or the number of its refusal, and what it carries.
+#[derive(Clone, Copy, Debug, PartialEq, Eq)]
 pub struct Answer {
     pub number: u64,
-    pub carries: u64,
-    pub value: u64,
-    pub second: u64,
+    pub value: Option<u64>,
+    pub second: Option<u64>,
 }
 
 fn bare(number: u64) -> Answer
     ensures { result ≡ no number [] }
 {
     Answer {
-        number: number,
-        carries: 0,
-        value: 0,
-        second: 0,
+        number,
+        value: None,
+        second: None,
     }
 }
 
@@ -107,70 +69,85 @@ fn with(number: u64, value: u64) -> Answer
     ensures { result ≡ no number (value ∷ []) }
 {
     Answer {
-        number: number,
-        carries: 1,
-        value: value,
-        second: 0,
+        number,
+        value: Some(value),
+        second: None,
     }
 }
 
 // A refusal's number and what it carries (R1 to R12).
-pub fn of_refusal(e: AllocError) -> Answer
-    ensures { result ≡ refusal e }
-{
-    match e {
-        AllocError::BadCount => bare(1),
-        AllocError::BadStart => bare(2),
-        AllocError::TooManyBoot => bare(3),
-        AllocError::Damaged => bare(4),
-        AllocError::InvalidPageOrder(order) => with(5, order as u64),
-        AllocError::OutOfMemory => bare(6),
-        AllocError::InvalidHeapAddress(address) => with(7, address.0),
-        AllocError::BootPage(address) => with(8, address.0),
-        AllocError::InvalidPageType(address) => with(9, address.0),
-        AllocError::InvalidFilePage(address) => with(10, address.0),
-        AllocError::RefFull(address) => with(11, address.0),
-        AllocError::InvalidItem(item) => with(12, item),
+impl From<AllocError> for Answer {
+    ghost from_gives = { λ e answer. answer ≡ refusal e };
+
+    fn from(e: AllocError) -> Answer {
+        match e {
+            AllocError::BadCount => bare(1),
+            AllocError::BadStart => bare(2),
+            AllocError::TooManyBoot => bare(3),
+            AllocError::Damaged => bare(4),
+            AllocError::InvalidPageOrder(order) => with(5, order as u64),
+            AllocError::OutOfMemory => bare(6),
+            AllocError::InvalidHeapAddress(address) => with(7, address.0),
+            AllocError::BootPage(address) => with(8, address.0),
+            AllocError::InvalidPageType(address) => with(9, address.0),
+            AllocError::InvalidFilePage(address) => with(10, address.0),
+            AllocError::RefFull(address) => with(11, address.0),
+            AllocError::InvalidItem(item) => with(12, item),
+        }
     }
 }
 
-pub fn of_done(answer: Done) -> Answer
-    ensures { result ≡ done answer }
-{
-    match answer {
-        Done::Ok => bare(0),
-        Done::Refused(e) => of_refusal(e),
+// What a call carries that succeeds.
+pub trait Carried {
+    ghost values: { Self → List ℕ };
+
+    fn carried(self) -> Answer
+        ensures { result ≡ ok (values self) };
+}
+
+impl Carried for () {
+    ghost values = { λ _. [] };
+
+    fn carried(self) -> Answer {
+        bare(0)
     }
 }
 
-pub fn of_grant(answer: Grant) -> Answer
-    ensures { result ≡ grant answer }
-{
-    match answer {
-        Grant::At(address) => with(0, address.0),
-        Grant::Refused(e) => of_refusal(e),
+impl Carried for VirtAddr {
+    ghost values = { λ address. address.0 ∷ [] };
+
+    fn carried(self) -> Answer {
+        with(0, self.0)
     }
 }
 
-pub fn of_count(answer: Count) -> Answer
-    ensures { result ≡ count answer }
-{
-    match answer {
-        Count::Is(n) => with(0, n),
-        Count::Refused(e) => of_refusal(e),
+impl Carried for u64 {
+    ghost values = { λ n. n ∷ [] };
+
+    fn carried(self) -> Answer {
+        with(0, self)
     }
 }
 
-pub fn of_layout(answer: Layout) -> Answer
-    ensures { result ≡ layout answer }
-{
-    match answer {
-        Layout::Is(l) => Answer {
+impl Carried for SizeAlign {
+    ghost values = { λ l. l.size ∷ l.align ∷ [] };
+
+    fn carried(self) -> Answer {
+        Answer {
             number: 0,
-            carries: 2,
-            value: l.size,
-            second: l.align,
-        },
-        Layout::Refused(e) => of_refusal(e),
+            value: Some(self.size),
+            second: Some(self.align),
+        }
+    }
+}
+
+impl<T: Carried> From<Result<T, AllocError>> for Answer {
+    ghost from_gives = { λ r answer. answer ≡ told T.values r };
+
+    fn from(r: Result<T, AllocError>) -> Answer {
+        match r {
+            Ok(value) => value.carried(),
+            Err(e) => Answer::from(e),
+        }
     }
 }

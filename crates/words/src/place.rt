@@ -5,11 +5,11 @@ ghost use Rattle.words.specs.Place.{page_at, address_at};
 pub const PAGE_SIZE: u64 = 4096;
 
 // The number of a page in its region, from 0.
-#[derive(Clone, Copy)]
+#[derive(Clone, Copy, Debug, PartialEq, Eq)]
 pub struct PageNumber(pub u64);
 
 // An address, in bytes.
-#[derive(Clone, Copy)]
+#[derive(Clone, Copy, Debug, PartialEq, Eq)]
 pub struct VirtAddr(pub u64);
 
 // Where an address lies in a region: at the first byte of a page, at another byte of one, or in none.

@@ -1,7 +1,7 @@
 -- By the law `get-code`. The code's types make what it calls sound input.
 use Rattle.common.specs.Kit.{◌≡◌, sym, ◌∙◌, arith, rules}
 use Rattle.words.specs.declared.place.PageAt.TheVariants.{Start}
-use Rattle.sound_calls.specs.Answer.{result_of}
+use Rattle.sound_calls.specs.Answer.{effect_of}
 use Rattle.sound_calls.specs.Promise.{at_page}
 use Rattle.sound_calls.proofs.Typing.{good}
 use Rattle.sound_calls.proofs.Places.{place, start-in}
@@ -21,5 +21,5 @@ unfolding at_page
 returns c =
     let state = good c.args.region c.args.words.now (search rules) (search rules) (search rules) (λ i. search rules) c.requires in
     let got = c.get_at.ensures in
-    (λ i. result_of (got.answer i) c.args.region (got.words i))
+    (λ i. effect_of (got.answer i) c.args.region (got.words i))
     ∙ (rw (found (goal.at.returns c).In-Start) at (get-code state c.args.vaddr.0))

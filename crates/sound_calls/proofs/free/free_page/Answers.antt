@@ -10,7 +10,7 @@ use Rattle.sound_calls.proofs.Typing.{good}
 use Rattle.sound_calls.proofs.Places.{place, start-in}
 use Rattle.sound_calls.proofs.FreeLaws.{free-ok, free-code}
 use Rattle.sound_calls.proofs.free.free_page.Goals as goal
-use Rattle.sound_calls.proofs.free.free_page.Goals.{In-Start, After-order_to_free-order}
+use Rattle.sound_calls.proofs.free.free_page.Goals.{In-Start, After-order_to_free}
 
 state : (c : In-Start) → SoundInput c.args.region c.args.words.now
 state c = good c.args.region c.args.words.now (search rules) (search rules) (search rules) (λ i. search rules) c.requires
@@ -20,39 +20,39 @@ found : (c : In-Start) → place c.args.region c.args.vaddr.0 ≡ Start c.in-Sta
 found c = sym c.get_pfn-place.ensures ∙ c.in-Start.is
 
 -- what the page's word tells
-told : (c : After-order_to_free-order) → freeable (said c.args.words.now c.in-Start.page.0) ≡ c.order_to_free-order.result
-told c = sym (c.order_to_free-order.ensures ∙ ap freeable c.read_page_info.ensures)
+told : (c : After-order_to_free) → freeable (said c.args.words.now c.in-Start.page.0) ≡ c.order_to_free.result
+told c = sym (c.order_to_free.ensures ∙ ap freeable c.read_page_info.ensures)
 
 pub returns-then-pfn-region : goal.returns-then-pfn-region
 unfolding at_page
 returns-then-pfn-region c =
     let s = (goal.at.returns-then-pfn-region c).In-Start in
-    let r = c.refused-then-pfn-region.ensures in
-    rw (r.0, r.1) (rw (found s, lt-ltb _ _ c.if-pfn-region.true) at (free-code (state s) c.args.vaddr.0))
+    let r = c.refuse-then-pfn-region.ensures in
+    rw r (rw (found s, lt-ltb _ _ c.if-pfn-region.true) at (free-code (state s) c.args.vaddr.0))
 
 pub read_page_info-requires : goal.read_page_info-requires
 read_page_info-requires c =
     let s = (goal.at.read_page_info-requires c).In-Start in
     omega (arith, c.requires.limits.long, start-in c.args.region _ _ (found s))
 
-pub returns-in_default-order : goal.returns-in_default-order
+pub returns-in_default-order_to_free : goal.returns-in_default-order_to_free
 unfolding at_page
-returns-in_default-order c =
-    let s = (goal.at.returns-in_default-order c).In-Start in
-    let none = told (goal.at.returns-in_default-order c).After-order_to_free-order ∙ c.in_default-order.is in
-    let r = c.refused-in_default-order.ensures in
-    rw (r.0, r.1) (rw (found s, le-ltb _ _ c.if-pfn-region.false, none) at (free-code (state s) c.args.vaddr.0))
+returns-in_default-order_to_free c =
+    let s = (goal.at.returns-in_default-order_to_free c).In-Start in
+    let none = told (goal.at.returns-in_default-order_to_free c).After-order_to_free ∙ c.in_default-order_to_free.is in
+    let r = c.refuse-in_default-order_to_free.ensures in
+    rw r (rw (found s, le-ltb _ _ c.if-pfn-region.false, none) at (free-code (state s) c.args.vaddr.0))
 
 pub free_page_order-rest-requires : goal.free_page_order-rest-requires
 free_page_order-rest-requires c =
     let s = (goal.at.free_page_order-rest-requires c).In-Start in
-    let some = told (goal.at.free_page_order-rest-requires c).After-order_to_free-order ∙ c.in-Some.is in
+    let some = told (goal.at.free_page_order-rest-requires c).After-order_to_free ∙ c.in-Some.is in
     free-ok (state s) _ _ c.if-pfn-region.false (start-in c.args.region _ _ (found s)) some
 
 pub returns : goal.returns
 unfolding at_page
 returns c =
     let s = (goal.at.returns c).In-Start in
-    let some = told (goal.at.returns c).After-order_to_free-order ∙ c.in-Some.is in
+    let some = told (goal.at.returns c).After-order_to_free ∙ c.in-Some.is in
     ap (leaves (ok [])) c.free_page_order-rest.ensures
     ∙ (rw (found s, le-ltb _ _ c.if-pfn-region.false, some) at (free-code (state s) c.args.vaddr.0))

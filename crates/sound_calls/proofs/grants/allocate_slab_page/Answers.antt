@@ -17,12 +17,12 @@ returns-then-good_item c =
     c.allocate_info.ensures
     ∙ slab-code (state (goal.at.returns-then-good_item c).After-good_item) _ (sym c.good_item.ensures ∙ c.if-good_item.true)
 
-pub returns-in_default : goal.returns-in_default
-returns-in_default c =
-    rw (sym c.find_order-found.ensures ∙ c.in_default.is) at
-    (slab-bad (state (goal.at.returns-in_default c).After-good_item) c.args.item_size (sym c.good_item.ensures ∙ c.if-good_item.false))
+pub returns-in-None : goal.returns-in-None
+returns-in-None c =
+    rw c.refuse-in-None.ensures (rw (sym c.find_order.ensures ∙ c.in-None.is) at
+    (slab-bad (state (goal.at.returns-in-None c).After-good_item) c.args.item_size (sym c.good_item.ensures ∙ c.if-good_item.false)))
 
-pub returns : goal.returns
-returns c =
-    rw (sym c.find_order-found.ensures ∙ c.in-Some.is) at
-    (slab-bad (state (goal.at.returns c).After-good_item) c.args.item_size (sym c.good_item.ensures ∙ c.if-good_item.false))
+pub returns-in-Some : goal.returns-in-Some
+returns-in-Some c =
+    rw c.refuse.ensures (rw (sym c.find_order.ensures ∙ c.in-Some.is) at
+    (slab-bad (state (goal.at.returns-in-Some c).After-good_item) c.args.item_size (sym c.good_item.ensures ∙ c.if-good_item.false)))
