@@ -12,7 +12,7 @@ use Rattle.sound_calls.specs.declared.Answer.{Answer}
 use Rattle.sound_calls.specs.Promise.{kept, became}
 use Rattle.sound_calls.specs.Code.{leaves}
 use Rattle.sound_calls.specs.declared.AllocError.{AllocError}
-use Rattle.sound_calls.specs.declared.Done.TheVariants as Done
+use Rattle.std.specs.Prelude.{Ok, Err}
 use Rattle.sound_calls.proofs.Answers.{dones, told-one}
 use Rattle.heap.specs.Promise.{empty_region, set_up_answer, set_up_promise}
 
@@ -44,7 +44,7 @@ module _ (start n a words : ℕ) where
 
   set-up-refused : (e : AllocError) → set_up_answer start n a words ≡ refusal e → eqb (set_up_answer start n a words).number 0 ≡ false
   set-up-refused e = set-up-outcomes (λ t. t ≡ refusal e → eqb t.number 0 ≡ false)
-      (λ _ x. let y = told-one dones Done.Ok (Done.Refused e) x in never (cc))
+      (λ _ x. let y = told-one dones (Ok tt) (Err e) x in never (cc))
       (λ k some _. ne_eqb k 0 some)
 
 module _ (start : VirtAddr) (n a : ℕ) (ws : List ℕ) where

@@ -5,6 +5,8 @@ use Rattle.words.specs.declared.place.VirtAddr.{VirtAddr}
 use Rattle.region.specs.declared.HeapMemoryRegion.{HeapMemoryRegion}
 use Rattle.sound_calls.specs.Answer.{ok, no, Effect}
 use Rattle.buddy.specs.Request.{for_block, on, to_free, to_put}
+use Rattle.std.specs.Prelude.{Result, unwrap_or}
+use Rattle.sound_calls.specs.declared.AllocError.{AllocError}
 use Rattle.sound_calls.specs.declared.Answer.{Answer}
 use Rattle.heap.specs.Promise.{set_up_promise, promise, audit_promise, Reported, reported, report_promise}
 use Rattle.heap.specs.declared.Report.{Report}
@@ -33,7 +35,7 @@ module _ (f : HeapMemoryRegion → List ℕ → ℕ → Effect) (keeps : (r : He
   not-one-page a useless =
       let first = sym (useless R.region R.words 1) ∙ tells R ∙ on-R.first-grant in
       let second = sym (useless one.region one.words 1) ∙ tells one ∙ on-R.second-grant in
-      let z : ◌≡◌ {A = ℕ} (page 60) (page 56) = ap (λ (t : Answer). t.value) (sym first ∙ second) in
+      let z : ◌≡◌ {A = ℕ} (page 60) (page 56) = ap (λ (t : Answer). unwrap_or t.value 0) (sym first ∙ second) in
       omega arith
 
 -- a call at an address that changes no word
@@ -56,8 +58,8 @@ unfolding then
 not-idle-put = not-idle (λ r ws a. promise r ws (on to_put a)) filed (page 62) 62 (λ e. omega (arith, on-R.file-out, on-R.put_back))
 
 -- a report whose counts do not come from the region
-pub not-invented : (f : HeapMemoryRegion → List ℕ → Report) → ((r : HeapMemoryRegion) (ws : List ℕ) → reported (f r ws) ≡ report_promise r ws)
-    → (counts : List ℕ) → ((r : HeapMemoryRegion) (ws : List ℕ) → (f r ws).free_pages ≡ counts) → ⊥
+pub not-invented : (f : HeapMemoryRegion → List ℕ → Result Report AllocError) → ((r : HeapMemoryRegion) (ws : List ℕ) → reported (f r ws) ≡ report_promise r ws)
+    → (counts : List ℕ) → ((r : HeapMemoryRegion) (ws : List ℕ) → (reported (f r ws)).free ≡ counts) → ⊥
 not-invented f keeps counts useless =
     let at-R = sym (useless R.region R.words) ∙ ap (λ (x : Reported). x.free) (keeps _ _) in
     let after = sym (useless one.region one.words) ∙ ap (λ (x : Reported). x.free) (keeps _ _) in

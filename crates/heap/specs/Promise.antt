@@ -1,15 +1,16 @@
 -- What each public call promises, for all input: its answer, the record and every word. Each promise is one total function that computes:
 -- soundness first, then the table's checks in the table's order, then the model's rule.
-use Rattle.std.specs.Prelude.{ℕ, ◌+◌, ◌-◌, ◌*◌, ◌%◌, ◌^◌, cond, ◌&&◌, List, [], eqb, leb, length, replicate}
+use Rattle.std.specs.Prelude.{ℕ, ◌+◌, ◌-◌, ◌*◌, ◌%◌, ◌^◌, cond, ◌&&◌, List, [], eqb, leb, length, replicate, Result, Ok, Err}
 use Rattle.words.specs.declared.place.VirtAddr.{VirtAddr}
 use Rattle.buddy.specs.Rules.{set_up}
 use Rattle.buddy.specs.Request.{Request}
 use Rattle.region.specs.Layout.{max_pages, alloc_pages, bare}
 use Rattle.region.specs.declared.HeapMemoryRegion.{HeapMemoryRegion}
 use Rattle.audit.specs.Check.{sound_b}
-use Rattle.sound_calls.specs.Answer.{ok, no, done, Effect}
+use Rattle.sound_calls.specs.Answer.{ok, no, refusal, Effect}
 use Rattle.sound_calls.specs.Promise.{kept, became, does, looks_up}
 use Rattle.sound_calls.specs.declared.Answer.{Answer}
+use Rattle.sound_calls.specs.declared.AllocError.{AllocError}
 use Rattle.heap.specs.declared.Report.{Report}
 
 -- "no pages, counts 0, no lists"
@@ -31,14 +32,15 @@ set_up_promise start n a ws =
     let t = set_up_answer start.0 n a (length ws) in
     cond (eqb t.number 0) (became (bare start n a) (set_up a (alloc_pages n)).heap t) (kept empty_region ws t)
 
--- what a report tells: its answer, and both count arrays
+-- what a report tells: its answer, and both count arrays; zeros with a refusal
 pub record Reported : Type 0 where
   pub answer : Answer
   pub total : List ℕ
   pub free : List ℕ
 
-abbrev pub reported : Report → Reported
-reported x = record { answer = done x.answer; total = x.total_pages; free = x.free_pages }
+abbrev pub reported : Result Report AllocError → Reported
+reported (Ok x) = record { answer = ok []; total = x.total_pages; free = x.free_pages }
+reported (Err e) = record { answer = refusal e; total = replicate 6 0; free = replicate 6 0 }
 
 module _ (r : HeapMemoryRegion) (ws : List ℕ) where
   -- refusal 4: what is not sound is refused, before all else

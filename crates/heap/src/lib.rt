@@ -2,17 +2,14 @@
 // For monitors that link it and tools that run it. Below it stand the audit, set-up, and the calls on a sound state.
 #![tactic(auto)]
 
-use sound_calls::Done;
-
 pub mod reads;
 pub mod requests;
 pub mod start;
 pub mod word;
 
-// Both count arrays of a sound region; zeros beside a refusal.
-#[derive(Clone, Copy)]
+// Both count arrays of a sound region.
+#[derive(Clone, Copy, Debug, PartialEq, Eq)]
 pub struct Report {
-    pub answer: Done,
     pub total_pages: [usize; 6],
     pub free_pages: [usize; 6],
 }

@@ -1,53 +1,50 @@
 // The calls that only read: lookup, report and audit.
-ghost use Rattle.std.specs.Prelude.{◌≡◌};
+ghost use Rattle.std.specs.Prelude.{◌≡◌, OnOk};
+ghost use Rattle.region.specs.Sound.{Sound};
 ghost use Rattle.sound_calls.specs.Answer.{done, layout};
 ghost use Rattle.heap.specs.Promise.{lookup_promise, reported, report_promise, audit_promise};
 
 use crate::Report;
 use region::HeapMemoryRegion;
-use sound_calls::{AllocError, Done, Layout};
+use sound_calls::{AllocError, SizeAlign};
 use words::place::VirtAddr;
 
 // Whether record and words are sound. Every other call that wants them so asks this one, and hands on what it refuses.
 #[tactic(auto, unfolding(crate::specs::Promise::audit_promise))]
-pub fn audit(region: HeapMemoryRegion, words: &[u64]) -> Done
-    ensures { done result ≡ audit_promise region words.now }
+pub fn audit(region: HeapMemoryRegion, words: &[u64]) -> Result<(), AllocError>
+    ensures answer { done result ≡ audit_promise region words.now }
+    ensures sound { OnOk result (Sound region words.now) }
 {
     if audit::audit(region, words) {
-        Done::Ok
+        Ok(())
     } else {
-        Done::Refused(AllocError::Damaged)
+        Err(AllocError::Damaged)
     }
 }
 
 // Size and alignment of what the page of an address was granted as.
-#[tactic(auto, unfolding(crate::specs::Promise::lookup_promise))]
-pub fn layout_from_ptr(region: HeapMemoryRegion, words: &[u64], vaddr: VirtAddr) -> Layout
+#[tactic(auto, using(crate::proofs::Audited::heard))]
+pub fn layout_from_ptr(
+    region: HeapMemoryRegion,
+    words: &[u64],
+    vaddr: VirtAddr,
+) -> Result<SizeAlign, AllocError>
     ensures { layout result ≡ lookup_promise region words.now vaddr.0 }
 {
-    let Done::Refused(why) = audit(region, words) else {
-        return sound_calls::lookup::layout_from_ptr(region, words, vaddr);
-    };
-    Layout::Refused(why)
+    audit(region, words)?;
+    sound_calls::lookup::layout_from_ptr(region, words, vaddr)
 }
 
 // Blocks and free blocks of each order.
-#[tactic(auto, unfolding(crate::specs::Promise::report_promise))]
-pub fn memory_info(region: HeapMemoryRegion, words: &[u64]) -> Report
+#[tactic(auto, using(crate::proofs::Audited::heard))]
+pub fn memory_info(region: HeapMemoryRegion, words: &[u64]) -> Result<Report, AllocError>
     ensures { reported result ≡ report_promise region words.now }
 {
-    let Done::Refused(why) = audit(region, words) else {
-        let total_pages = region.nr_pages;
-        let free_pages = region.free_pages;
-        return Report {
-            answer: Done::Ok,
-            total_pages: total_pages,
-            free_pages: free_pages,
-        };
-    };
-    Report {
-        answer: Done::Refused(why),
-        total_pages: [0; 6],
-        free_pages: [0; 6],
-    }
+    audit(region, words)?;
+    let total_pages = region.nr_pages;
+    let free_pages = region.free_pages;
+    Ok(Report {
+        total_pages,
+        free_pages,
+    })
 }

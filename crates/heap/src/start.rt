@@ -3,9 +3,9 @@ ghost use Rattle.std.specs.Prelude.{◌≡◌};
 ghost use Rattle.sound_calls.specs.Answer.{effect_of, done};
 ghost use Rattle.heap.specs.Promise.{empty_region, set_up_answer, set_up_promise};
 
-use region::{HeapMemoryRegion, alloc_pages, bare_region, pages_good};
+use region::{After, HeapMemoryRegion, alloc_pages, bare_region, pages_good};
 use setup::init_memory;
-use sound_calls::{AllocError, Done, Finished};
+use sound_calls::{AllocError, refuse};
 use words::place::{PAGE_SIZE, VirtAddr};
 
 // The record of a region without pages.
@@ -17,26 +17,31 @@ pub fn empty_region() -> HeapMemoryRegion
 
 // Whether a region can be set up with these numbers, and if not, the first refusal.
 #[tactic(auto, unfolding(crate::specs::Promise::set_up_answer))]
-fn set_up_answer(start_virt: VirtAddr, page_count: usize, allocated: usize, words: usize) -> Done
+fn set_up_answer(
+    start_virt: VirtAddr,
+    page_count: usize,
+    allocated: usize,
+    words: usize,
+) -> Result<(), AllocError>
     ensures { done result ≡ set_up_answer start_virt.0 page_count allocated words }
 {
     let start = start_virt.0;
     if !pages_good(page_count) {
-        return Done::Refused(AllocError::BadCount);
+        return Err(AllocError::BadCount);
     }
     if words != page_count {
-        return Done::Refused(AllocError::BadCount);
+        return Err(AllocError::BadCount);
     }
     if start % PAGE_SIZE != 0 {
-        return Done::Refused(AllocError::BadStart);
+        return Err(AllocError::BadStart);
     }
     if 0xffff_ffff_ffff_ffff - PAGE_SIZE * (page_count as u64) < start {
-        return Done::Refused(AllocError::BadStart);
+        return Err(AllocError::BadStart);
     }
     if alloc_pages(page_count) < allocated {
-        return Done::Refused(AllocError::TooManyBoot);
+        return Err(AllocError::TooManyBoot);
     }
-    Done::Ok
+    Ok(())
 }
 
 // Sets a region up on the lent words: `page_count` pages from `start_virt` on, the first `allocated` of them boot pages.
@@ -45,19 +50,14 @@ pub fn root_mem_init(
     page_count: usize,
     allocated: usize,
     words: &mut [u64],
-) -> Finished
+) -> After<Result<(), AllocError>>
     ensures { effect_of (done result.answer) result.region words.new ≡ set_up_promise start_virt page_count allocated words.old }
 {
-    let answer = set_up_answer(start_virt, page_count, allocated, words.len());
-    let Done::Ok = answer else {
-        return Finished {
-            region: empty_region(),
-            answer: answer,
-        };
-    };
-    let region = init_memory(words, start_virt, page_count, allocated);
-    Finished {
-        region: region,
-        answer: Done::Ok,
+    match set_up_answer(start_virt, page_count, allocated, words.len()) {
+        Ok(()) => After {
+            region: init_memory(words, start_virt, page_count, allocated),
+            answer: Ok(()),
+        },
+        Err(why) => refuse(empty_region(), why),
     }
 }
