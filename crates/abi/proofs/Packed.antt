@@ -39,3 +39,5 @@ unfolding unpacked six_from
 unpacked-packed r nr frees heads =
     rw (take_at, ← drop-drop 6 6 (r.nr_pages ++ (r.free_pages ++ r.next_page)), drop_at, take_at, drop_at)
     (rw (take_all 6 r.next_page (omega arith)))
+
+pub ruleset undone = (packed-unpacked)

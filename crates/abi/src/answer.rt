@@ -6,7 +6,7 @@ use sound_calls::Answer;
 
 // What a call answers: 0 or the number of its refusal, and what it carries, zeros where it carries less.
 #[repr(C)]
-#[derive(Clone, Copy)]
+#[derive(Clone, Copy, Debug, PartialEq, Eq)]
 pub struct Exported {
     pub number: u64,
     pub value: u64,
@@ -27,12 +27,14 @@ pub fn bad_buffer() -> Exported
     }
 }
 
-pub fn export(answer: Answer) -> Exported
-    ensures { result ≡ answer_of answer }
-{
-    Exported {
-        number: answer.number,
-        value: answer.value,
-        second: answer.second,
+impl From<Answer> for Exported {
+    ghost from_gives = { λ answer exported. exported ≡ answer_of answer };
+
+    fn from(answer: Answer) -> Exported {
+        Exported {
+            number: answer.number,
+            value: answer.value.unwrap_or(0),
+            second: answer.second.unwrap_or(0),
+        }
     }
 }

@@ -2,10 +2,10 @@
 ghost use Rattle.std.specs.Prelude.{◌≡◌};
 ghost use Rattle.abi.specs.Promise.{reported, lookup_answer, audit_answer, report_left};
 
-use crate::answer::{Exported, bad_buffer, export};
+use crate::answer::{Exported, bad_buffer};
 use crate::record::{RECORD, load, put_six};
 use heap::reads::{audit, layout_from_ptr, memory_info};
-use sound_calls::{of_done, of_layout};
+use sound_calls::Answer;
 use words::place::VirtAddr;
 
 // The length of a report: blocks and free blocks of each order.
@@ -15,41 +15,40 @@ pub const REPORT: usize = 12;
 pub fn tingmudra_layout_from_ptr(numbers: &[u64], words: &[u64], vaddr: u64) -> Exported
     ensures { result ≡ lookup_answer numbers.now words.now vaddr }
 {
-    if numbers.len() != RECORD {
+    let Some(record) = numbers.as_array::<RECORD>() else {
         return bad_buffer();
-    }
-    export(of_layout(layout_from_ptr(load(numbers), words, VirtAddr(vaddr))))
+    };
+    Exported::from(Answer::from(layout_from_ptr(load(record), words, VirtAddr(vaddr))))
 }
 
 // Whether record and words are sound.
 pub fn tingmudra_audit(numbers: &[u64], words: &[u64]) -> Exported
     ensures { result ≡ audit_answer numbers.now words.now }
 {
-    if numbers.len() != RECORD {
+    let Some(record) = numbers.as_array::<RECORD>() else {
         return bad_buffer();
-    }
-    export(of_done(audit(load(numbers), words)))
+    };
+    Exported::from(Answer::from(audit(load(record), words)))
 }
 
 // Blocks and free blocks of each order, written to `report`.
 pub fn tingmudra_memory_info(numbers: &[u64], words: &[u64], report: &mut [u64]) -> Exported
     ensures { reported result report.new ≡ report_left numbers.now words.now report.old }
 {
-    if numbers.len() != RECORD {
+    let Some(record) = numbers.as_array::<RECORD>() else {
         return bad_buffer();
-    }
+    };
     if report.len() != REPORT {
         return bad_buffer();
     }
-    let info = memory_info(load(numbers), words);
-    let done = info.answer;
-    let answer = export(of_done(done));
-    if answer.number != 0 {
-        return answer;
+    match memory_info(load(record), words) {
+        Ok(info) => {
+            let free_pages = info.free_pages;
+            let total_pages = info.total_pages;
+            put_six(report, 6, free_pages);
+            put_six(report, 0, total_pages);
+            Exported::from(Answer::from(Ok(())))
+        }
+        Err(why) => Exported::from(Answer::from(why)),
     }
-    let free_pages = info.free_pages;
-    let total_pages = info.total_pages;
-    put_six(report, 6, free_pages);
-    put_six(report, 0, total_pages);
-    answer
 }

@@ -10,8 +10,7 @@ pub(crate) const RECORD: usize = 21;
 
 // The record that the numbers say.
 #[tactic(auto, unfolding(crate::specs::Record::unpacked))]
-pub(crate) fn load(numbers: &[u64]) -> HeapMemoryRegion
-    requires { length numbers.now ≡ 21 }
+pub(crate) fn load(numbers: &[u64; RECORD]) -> HeapMemoryRegion
     ensures { result ≡ unpacked numbers.now }
 {
     let nr_pages = six(numbers, 3);
@@ -32,18 +31,15 @@ fn six(numbers: &[u64], from: usize) -> [usize; 6]
     requires { from + 6 ≤ length numbers.now }
     ensures { result ≡ six_from numbers.now from }
 {
-    let mut six: [usize; 6] = [0; 6];
-    let mut i: usize = 0;
-    while i < 6 {
+    let mut six = [0usize; 6];
+    for i in 0..6 {
         six[i] = numbers[from + i] as usize;
-        i += 1;
     }
     six
 }
 
 // Writes a record as numbers.
-pub(crate) fn store(numbers: &mut [u64], region: HeapMemoryRegion)
-    requires { length numbers.old ≡ 21 }
+pub(crate) fn store(numbers: &mut [u64; RECORD], region: HeapMemoryRegion)
     ensures { numbers.new ≡ packed region }
 {
     let next_page = region.next_page;
@@ -63,9 +59,7 @@ pub(crate) fn put_six(numbers: &mut [u64], from: usize, six: [usize; 6])
     requires { from + 6 ≤ length numbers.old }
     ensures { numbers.new ≡ with_six numbers.old from six }
 {
-    let mut i: usize = 0;
-    while i < 6 {
+    for i in 0..6 {
         numbers[from + i] = six[i] as u64;
-        i += 1;
     }
 }

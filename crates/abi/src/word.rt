@@ -7,15 +7,15 @@ ghost use Rattle.abi.specs.Word.{said_of, encoded_of};
 
 use crate::answer::Exported;
 use heap::word::{decode, encode_fields, get_order};
-use words::raw::fields_of;
-use words::word::{};
+use words::raw;
+use words::word::PageInfo;
 
 // No word has these fields, or no fields this word: the plain "no" (W6, W7), under a number of our own (`BAD_BUFFER`).
 pub const NO: u64 = 0x4000_0001;
 
 // A page's fields: its type's number; order, item size or count; next page. 0 where the type has no such field.
 #[repr(C)]
-#[derive(Clone, Copy)]
+#[derive(Clone, Copy, Debug, PartialEq, Eq)]
 pub struct Fields {
     pub number: u64,
     pub kind: u64,
@@ -23,42 +23,50 @@ pub struct Fields {
     pub next: u64,
 }
 
+impl From<Option<PageInfo>> for Fields {
+    ghost from_gives = { λ said fields. fields ≡ said_of said };
+
+    fn from(said: Option<PageInfo>) -> Fields {
+        let Some(info) = said else {
+            return Fields {
+                number: NO,
+                kind: 0,
+                field: 0,
+                next: 0,
+            };
+        };
+        let raw::Fields { kind, field, next } = raw::Fields::from(info);
+        Fields {
+            number: 0,
+            kind,
+            field,
+            next,
+        }
+    }
+}
+
 // What a page's word says.
 pub fn tingmudra_decode(word: u64) -> Fields
     ensures { result ≡ said_of (decode_of word) }
 {
-    let Some(info) = decode(word) else {
-        return Fields {
-            number: NO,
-            kind: 0,
-            field: 0,
-            next: 0,
-        };
-    };
-    let said = fields_of(info);
-    Fields {
-        number: 0,
-        kind: said.kind,
-        field: said.field,
-        next: said.next,
-    }
+    Fields::from(decode(word))
 }
 
 // The word of raw fields, by the type's number.
 pub fn tingmudra_encode(kind: u64, field: u64, next: u64) -> Exported
     ensures { result ≡ encoded_of (encode_fields kind field next) }
 {
-    let Some(word) = encode_fields(kind, field, next) else {
-        return Exported {
+    match encode_fields(kind, field, next) {
+        Some(word) => Exported {
+            number: 0,
+            value: word.0,
+            second: 0,
+        },
+        None => Exported {
             number: NO,
             value: 0,
             second: 0,
-        };
-    };
-    Exported {
-        number: 0,
-        value: word.0,
-        second: 0,
+        },
     }
 }
 

@@ -1,5 +1,6 @@
 -- More that holds at every moment of every history: no page is granted that is still out, the counts are those of free blocks and of blocks
 -- still out, and when all is back all is free.
+use Rattle.std.specs.Prelude.{unwrap_or}
 use Rattle.common.specs.Kit.{ℕ, ◌+◌, ◌≤◌, ◌<◌, ◌≡◌, refl, sym, ap, ◌∙◌, subst, ◌↔◌, ⊎_elim, Bool, List, [], ◌∷◌, mem-not_nil, T, length, get_or, length-map, arith}
 use Rattle.common.specs.Numbers.{count}
 use Rattle.common.proofs.Tests.{bool_iff}
@@ -59,7 +60,7 @@ module _ {m : Moment} {xs : List Request} (k : Mirror m xs) where
       let y = clears (moved p x) w.page (c ∙ w.is) in
       record {
         first = w.page;
-        at = ap (λ (u : Answer). u.value) (sym told ∙ w.told);
+        at = ap (λ (u : Answer). unwrap_or u.value 0) (sym told ∙ w.told);
         head = rw w.order at y.0;
         clear = clear-from k o _ (rw w.order at y.1);
       })

@@ -1,5 +1,6 @@
 -- What a return is, at every moment of every history: a free succeeds exactly at the address of a block still out, and a put answers 0 exactly
 -- at that of a file page that was put as often as it was got.
+use Rattle.std.specs.Prelude.{unwrap_or}
 use Rattle.common.specs.Kit.{ℕ, ◌-◌, ◌≡◌, refl, sym, ap, ◌∙◌, subst, List, [], ◌∷◌, arith}
 use Rattle.words.specs.declared.place.VirtAddr.{VirtAddr}
 use Rattle.buddy.specs.Request.{Request, on, to_free, to_put}
@@ -27,7 +28,7 @@ give-done answers-done = refl
 put_last : {r : HeapMemoryRegion} {ws : List ℕ} {p : ℕ} {b : Model.ModelAnswer} {t : Answer} → Answers (on to_put p) b → Tells r ws b t
     → t ≡ ok (0 ∷ []) → b ≡ counted 0
 put_last (answers-page asks) _ _ = elim asks [ ]
-put_last answers-put tells-count e = ap (λ (t : Answer). counted t.value) e
+put_last answers-put tells-count e = ap (λ (t : Answer). counted (unwrap_or t.value 0)) e
 
 module _ {m : Moment} {xs : List Request} (k : Mirror m xs) where
   abbrev r : HeapMemoryRegion

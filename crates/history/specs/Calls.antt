@@ -1,6 +1,6 @@
 -- Histories of the public calls. A history starts from a set-up that succeeded, with no other after it; each later call is handed the record and the
 -- words that the last one left; what it answers and leaves is what its promise says, and nothing else is known of it (H1).
-use Rattle.std.specs.Prelude.{ℕ, ◌≡◌, cond, List, [], ◌∷◌, ◌++◌, eqb}
+use Rattle.std.specs.Prelude.{ℕ, ◌≡◌, cond, List, [], ◌∷◌, ◌++◌, eqb, unwrap_or}
 use Rattle.words.specs.declared.place.VirtAddr.{VirtAddr}
 use Rattle.buddy.specs.Request.{Request}
 use Rattle.buddy.specs.History.{Event, event}
@@ -25,7 +25,7 @@ called r ws audit = effect_of (audit_promise r ws) r ws
 -- "Write down only grants and returns that succeeded; a put is a return when it answers 0" (H2). The events are those of the model, with addresses
 -- for pages: blocks are named by their addresses, and gets and other puts are written for the counts
 abbrev pub written : Request → Answer → List Event
-written x t = cond (eqb t.number 0) (event x t.value ∷ []) []
+written x t = cond (eqb t.number 0) (event x (unwrap_or t.value 0) ∷ []) []
 
 -- of a call that only reads nothing is written
 abbrev pub noted : Call → Answer → List Event

@@ -9,10 +9,14 @@ ghost use Rattle.sound_calls.specs.Answer.{effect_of, done, grant, count};
 ghost use Rattle.heap.specs.Promise.{promise};
 
 use region::HeapMemoryRegion;
-use sound_calls::{Count, Done, Grant};
+use sound_calls::AllocError;
 use words::place::VirtAddr;
 
-pub fn allocate_pages(region: &mut HeapMemoryRegion, words: &mut [u64], order: usize) -> Grant
+pub fn allocate_pages(
+    region: &mut HeapMemoryRegion,
+    words: &mut [u64],
+    order: usize,
+) -> Result<VirtAddr, AllocError>
     ensures { effect_of (grant result) region.new words.new ≡ promise region.old words.old (for_block order) }
 {
     let kept = *region;
@@ -21,7 +25,11 @@ pub fn allocate_pages(region: &mut HeapMemoryRegion, words: &mut [u64], order: u
     granted.answer
 }
 
-pub fn free_page(region: &mut HeapMemoryRegion, words: &mut [u64], vaddr: VirtAddr) -> Done
+pub fn free_page(
+    region: &mut HeapMemoryRegion,
+    words: &mut [u64],
+    vaddr: VirtAddr,
+) -> Result<(), AllocError>
     ensures { effect_of (done result) region.new words.new ≡ promise region.old words.old (on to_free vaddr.0) }
 {
     let kept = *region;
@@ -30,7 +38,11 @@ pub fn free_page(region: &mut HeapMemoryRegion, words: &mut [u64], vaddr: VirtAd
     finished.answer
 }
 
-pub fn put_file_page(region: &mut HeapMemoryRegion, words: &mut [u64], vaddr: VirtAddr) -> Count
+pub fn put_file_page(
+    region: &mut HeapMemoryRegion,
+    words: &mut [u64],
+    vaddr: VirtAddr,
+) -> Result<u64, AllocError>
     ensures { effect_of (count result) region.new words.new ≡ promise region.old words.old (on to_put vaddr.0) }
 {
     let kept = *region;

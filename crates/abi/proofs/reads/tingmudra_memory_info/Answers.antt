@@ -1,13 +1,14 @@
 -- Both lengths and the answer pick the case of `report_left`.
-use Rattle.common.specs.Kit.{ap, eq-eqb}
+use Rattle.common.specs.Kit.{◌≡◌, ap, eq-eqb, length, rules}
 use Rattle.abi.specs.Promise.{reported}
 use Rattle.abi.proofs.Packed.{reports}
 use Rattle.abi.proofs.reads.tingmudra_memory_info.Goals as goal
 
-pub returns : goal.returns
-returns c =
+pub returns-in-Ok : goal.returns-in-Ok
+returns-in-Ok c =
     let long = c.if-report-ne-REPORT.false in
-    let good = eq-eqb _ 0 (rw c.export-answer.ensures at c.if-answer-ne0.false) in
-    simp (eq-eqb _ 21 c.if-numbers-ne-RECORD.false, eq-eqb _ 12 long, ← c.load.ensures)
-    (simp (← c.memory_info-info.ensures, ← c.of_done.ensures, good, c.export-answer.ensures)
-    (ap (reported _) (reports _ _ _ _ _ long c.put_six.ensures c.put_six-2.ensures)))
+    let is : length c.args.numbers.now ≡ 21 = search rules in
+    let same : c.in-Some.record.now ≡ c.args.numbers.now = search rules in
+    let told = rw (c.load.ensures, same) at c.in-Ok.ensures in
+    simp (eq-eqb _ 21 is, eq-eqb _ 12 long, ← told, c.from-in-Ok.ensures, c.from.ensures)
+    (ap (reported _) (reports _ _ _ _ _ long c.put_six.ensures c.put_six-in-Ok.ensures))

@@ -1,9 +1,6 @@
 -- The first `i` numbers are those from the place on.
-use Rattle.common.specs.Kit.{◌-◌, ◌≤◌, ◌≡◌, ◌++◌, length, take, drop, replicate}
+use Rattle.common.specs.Kit.{◌≡◌, ◌++◌, length, take, drop, replicate}
 use Rattle.abi.proofs.record.six.Given as goal
 
 abbrev pub invariant-loop-i : goal.invariant-loop-i
-invariant-loop-i l = (l.i ≤ 6) × (length l.six ≡ 6) × (l.six ≡ take l.i (drop l.from l.numbers) ++ drop l.i (replicate 6 0))
-
-abbrev pub decreases-loop-i : goal.decreases-loop-i
-decreases-loop-i l = 6 - l.i
+invariant-loop-i l = (length l.six ≡ 6) × (l.six ≡ take l.i (drop l.from l.numbers) ++ drop l.i (replicate 6 0))
