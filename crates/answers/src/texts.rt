@@ -50,6 +50,7 @@ fn print(out: &mut impl Write, region: HeapMemoryRegion, words: &[u64]) -> fmt::
     }
 }
 
+// The blocks of each order, or the line of the refusal.
 fn memory(region: HeapMemoryRegion, words: &[u64]) -> Result<Memory, Line> {
     let Report {
         answer,
@@ -117,6 +118,7 @@ fn next_of(words: &[u64], page: usize) -> Option<usize> {
     }
 }
 
+// A page number, if it is not that of none.
 fn named(page: usize) -> Option<usize> {
     Some(page).filter(|page| *page != NO_PAGE)
 }

@@ -20,7 +20,9 @@ const BLOCK: usize = 65536;
 fn main(rt: HostRuntime) -> ExitCode {
     let mut reader = rt.stdin();
     let terminal = Terminal::new(&rt, &reader);
-    terminal.greet();
+    terminal.tell(
+        "heapsh 0.3.0: a page heap, one request to a line; help lists the requests, quit ends\n",
+    );
     let mut words = [RESERVED; MOST_WORDS];
     let mut read = [0u8; BLOCK];
     let mut written = [0u8; BLOCK];

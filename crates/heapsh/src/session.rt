@@ -30,17 +30,17 @@ impl<R: Print + Eprint> Session<'_, R> {
     fn turn(&mut self, input: &mut Input<'_, impl Read>) -> Result<ControlFlow<()>, fmt::Error> {
         let terminal = self.terminal;
         if input.unfinished().is_empty() {
-            terminal.prompt();
+            terminal.tell("> ");
         }
-        let end;
-        if input.read() {
-            end = self.hear(input.whole_lines())?;
+        let end = if input.read() {
+            let end = self.hear(input.whole_lines())?;
             input.keep_unfinished();
+            end
         } else {
-            terminal.leave();
+            terminal.tell("\n");
             self.hear(input.unfinished())?;
-            end = ControlFlow::Break(());
-        }
+            ControlFlow::Break(())
+        };
         self.out.flush()?;
         Ok(end)
     }

@@ -28,25 +28,10 @@ impl<'a, R: Eprint> Terminal<'a, R> {
         }
     }
 
-    pub fn greet(&self) {
+    // Writes what a script has not.
+    pub fn tell(&self, text: &str) {
         if self.is_terminal {
-            let _ = self.rt.eprintln(
-                "heapsh 0.3.0: a page heap, one request to a line; help lists the requests, quit ends",
-            );
-        }
-    }
-
-    // Asks for a line.
-    pub fn prompt(&self) {
-        if self.is_terminal {
-            let _ = self.rt.eprint("> ");
-        }
-    }
-
-    // Leaves the line on which the input has ended.
-    pub fn leave(&self) {
-        if self.is_terminal {
-            let _ = self.rt.eprint("\n");
+            let _ = self.rt.eprint(text);
         }
     }
 

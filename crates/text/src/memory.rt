@@ -24,12 +24,9 @@ impl fmt::Display for Memory {
 
 // The memory of so many blocks of each order, 4 KiB to a page. No sound heap has enough of it for the sums to wrap.
 fn kib(blocks: &[usize]) -> usize {
-    blocks
-        .iter()
-        .rev()
-        .fold(
-            0,
-            |pages: usize, count| pages.wrapping_mul(2).wrapping_add(*count),
-        )
-        .wrapping_mul(4)
+    let mut pages: usize = 0;
+    for count in blocks.iter().rev() {
+        pages = pages.wrapping_mul(2).wrapping_add(*count);
+    }
+    pages.wrapping_mul(4)
 }

@@ -1,5 +1,5 @@
 // Standard output, by way of a buffer that the caller lends.
-ghost use Rattle.std.specs.Prelude.{◌≡◌, ◌≤◌, length, IfOk};
+ghost use Rattle.std.specs.Prelude.{◌≡◌, ◌≤◌, length, IfOk, IsOkAnd};
 ghost use Rattle.std.specs.Result.{ForOk};
 
 use std::fmt;
@@ -16,7 +16,9 @@ pub struct Out<'a, P> {
 }
 
 impl<'a, P: Print> Out<'a, P> {
-    pub fn new(rt: &'a P, buffer: &'a mut [u8]) -> Self {
+    pub fn new(rt: &'a P, buffer: &'a mut [u8]) -> Self
+        ensures { IsOkAnd result.waiting (λ n. n ≡ 0) }
+    {
         Out {
             rt,
             buffer,
