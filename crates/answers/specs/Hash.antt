@@ -1,6 +1,7 @@
 -- The 64-bit FNV-1a hash of words, each as eight bytes, the low one first.
-use Rattle.std.specs.Prelude.{bit_xor}
-use Rattle.std.specs.Prelude.{ℕ, zero, suc, ◌*◌, ◌/◌, ◌%◌, ◌^◌, List, [], ◌∷◌}
+use Rattle.std.specs.Prelude.{ℕ, ◌*◌, ◌%◌, ◌^◌, List, bit_xor}
+use Rattle.std.specs.Int.{w64, to_le_bytes}
+use Rattle.std.specs.List.{fold}
 
 abbrev pub basis : ℕ
 basis = 0xcbf29ce484222325
@@ -12,14 +13,8 @@ prime = 0x100000001b3
 unfoldable pub with_byte : ℕ → ℕ → ℕ
 with_byte hash b = bit_xor hash b * prime % 2 ^ 64
 
--- with the low k bytes of a word
-abbrev pub with_bytes : ℕ → ℕ → ℕ → ℕ
-with_bytes zero hash w = hash
-with_bytes (suc k) hash w = with_bytes k (with_byte hash (w % 256)) (w / 256)
-
-abbrev pub with_words : ℕ → List ℕ → ℕ
-with_words hash [] = hash
-with_words hash (w ∷ ws) = with_words (with_bytes 8 hash w) ws
+unfoldable pub with_word : ℕ → ℕ → ℕ
+with_word hash w = fold with_byte hash (to_le_bytes w64 w)
 
 unfoldable pub hash_of : List ℕ → ℕ
-hash_of ws = with_words basis ws
+hash_of ws = fold with_word basis ws

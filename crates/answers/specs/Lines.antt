@@ -1,5 +1,5 @@
 -- Answers as lines (README.md, "The shell"): `ok` or `no`, and what an answer of the heap carries; and what a word says.
-use Rattle.std.specs.Prelude.{ℕ, cond, List, [], ◌∷◌, eqb, ltb}
+use Rattle.std.specs.Prelude.{ℕ, cond, List, [], ◌∷◌, eqb, map, take}
 use Rattle.words.specs.Word.{no_page}
 use Rattle.words.specs.declared.word.PageInfo.{PageInfo}
 use Rattle.words.specs.declared.word.PageInfo.TheVariants as Page
@@ -12,15 +12,13 @@ use Rattle.text.specs.declared.answer.Line.{Line}
 use Rattle.text.specs.declared.answer.Word.{Word}
 use Rattle.text.specs.declared.answer.Value.{Value}
 
--- the value at place i, of n that an answer carries; None where it carries less
-abbrev pub carried : ℕ → ℕ → ℕ → Value
-carried n i v = cond (ltb i n) (Value.Number v) Value.None
+-- the values that an answer carries, two at most
+abbrev pub carried : Answer → List Value
+carried t = map Value.Number (take t.carries (t.value ∷ t.second ∷ []))
 
 -- `ok` and what the answer carries, or `no`, the refusal's number and what it carries
 unfoldable pub line_of : Answer → Line
-line_of t =
-    let vs : List Value = carried t.carries 0 t.value ∷ carried t.carries 1 t.second ∷ [] in
-    cond (eqb t.number 0) (line Word.Ok vs) (line Word.No (Value.Number t.number ∷ vs))
+line_of t = cond (eqb t.number 0) (line Word.Ok (carried t)) (line Word.No (Value.Number t.number ∷ carried t))
 
 -- a page, `-` for none
 abbrev pub page_value : ℕ → Value

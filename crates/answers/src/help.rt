@@ -1,12 +1,5 @@
 // What the requests are, for people.
-use text::text;
-
-pub fn help(rt: &impl Print, out: &mut [u8], at: usize) -> usize {
-    text(
-        rt,
-        out,
-        at,
-        b"\
+pub const HELP: &str = "\
 words N                   lend N words, 0 to 8192, all Reserved; the record is the empty one then
 setup START PAGES BOOT    set the region up in the lent words
 alloc ORDER               a block of 2^ORDER pages
@@ -28,6 +21,4 @@ encode TYPE A B           the word of a page's fields
 decode HEX                what a word says of its page
 order SIZE                the least order whose block holds SIZE bytes
 help                      this list
-",
-    )
-}
+";

@@ -1,6 +1,6 @@
 // The answers of several numbers or lines, each made of the record and the words.
 use crate::hash::fnv;
-use crate::help::help;
+use crate::help::HELP;
 use crate::lines::{of_answer, page_number};
 use heap::Report;
 use heap::reads::{audit, memory_info};
@@ -8,177 +8,117 @@ use heap::word::decode;
 use parse::names;
 use region::HeapMemoryRegion;
 use sound_calls::{Done, of_refusal};
-use text::answer::{Value, write, write_value};
-use text::lines::report_lines;
-use text::{decimal, hex, named, text};
-use words::word::{Decoded, MAX_ORDER, NO_PAGE, PageInfo};
+use std::fmt::{self, Display, Write};
+use std::iter::successors;
+use text::answer::Line;
+use text::memory::Memory;
+use words::word::{Decoded, NO_PAGE, PageInfo};
 
 // Writes what a request asks for.
 pub fn write_text(
-    rt: &impl Print,
-    out: &mut [u8],
-    at: usize,
+    out: &mut impl Write,
     request: u64,
     region: HeapMemoryRegion,
     words: &[u64],
-) -> usize {
+) -> fmt::Result {
     match request {
-        names::REPORT => report(rt, out, at, memory_info(region, words), false),
-        names::PRINT => report(rt, out, at, memory_info(region, words), true),
-        names::LISTS => lists(rt, out, at, region, words),
-        names::STATE => state(rt, out, at, region, words),
-        _ => help(rt, out, at),
+        names::REPORT => report(out, region, words),
+        names::PRINT => print(out, region, words),
+        names::LISTS => lists(out, region, words),
+        names::STATE => state(out, region, words),
+        _ => out.write_str(HELP),
     }
 }
 
-// The report as twelve numbers, or as the lines that people read.
-fn report(rt: &impl Print, out: &mut [u8], at: usize, report: Report, lines: bool) -> usize {
-    let done = report.answer;
-    let total = report.total_pages;
-    let free = report.free_pages;
-    if let Done::Refused(e) = done {
-        return write(rt, out, at, of_answer(of_refusal(e)));
+// The report as twelve numbers.
+fn report(out: &mut impl Write, region: HeapMemoryRegion, words: &[u64]) -> fmt::Result {
+    match memory(region, words) {
+        Ok(memory) => {
+            let total = memory.total;
+            let free = memory.free;
+            writeln!(out, "ok{}{}", Six(total), Six(free))
+        }
+        Err(refusal) => writeln!(out, "{refusal}"),
     }
-    if lines {
-        return report_lines(rt, out, at, total, free);
+}
+
+// The report as the lines that people read.
+fn print(out: &mut impl Write, region: HeapMemoryRegion, words: &[u64]) -> fmt::Result {
+    match memory(region, words) {
+        Ok(memory) => write!(out, "{memory}"),
+        Err(refusal) => writeln!(out, "{refusal}"),
     }
-    let mut used = six(rt, out, at, b"ok", total, false);
-    used = six(rt, out, used, b"", free, false);
-    text(rt, out, used, b"\n")
+}
+
+// The blocks of each order, or the line of the refusal.
+fn memory(region: HeapMemoryRegion, words: &[u64]) -> Result<Memory, Line> {
+    let Report {
+        answer,
+        total_pages,
+        free_pages,
+    } = memory_info(region, words);
+    match answer {
+        Done::Ok => Ok(Memory {
+            total: total_pages,
+            free: free_pages,
+        }),
+        Done::Refused(e) => Err(of_answer(of_refusal(e))),
+    }
 }
 
 // The record, and the hash of the words.
-fn state(
-    rt: &impl Print,
-    out: &mut [u8],
-    at: usize,
-    region: HeapMemoryRegion,
-    words: &[u64],
-) -> usize {
-    let mut used = sizes(rt, out, at, region);
-    used = orders(rt, out, used, region);
-    used = text(rt, out, used, b" | ");
-    used = hex(rt, out, used, fnv(words), 16);
-    text(rt, out, used, b"\n")
-}
-
-fn sizes(rt: &impl Print, out: &mut [u8], at: usize, region: HeapMemoryRegion) -> usize {
+fn state(out: &mut impl Write, region: HeapMemoryRegion, words: &[u64]) -> fmt::Result {
     let start = region.start_virt;
-    let mut used = decimal(rt, out, at, start.0);
-    used = named(rt, out, used, b" ", region.page_count as u64);
-    named(rt, out, used, b" ", region.allocated as u64)
+    writeln!(
+        out,
+        "{} {} {} |{} |{} |{} | {:016x}",
+        start.0,
+        region.page_count,
+        region.allocated,
+        Six(region.nr_pages),
+        Six(region.free_pages),
+        Six(region.next_page.map(page_number)),
+        fnv(words)
+    )
 }
 
-fn orders(rt: &impl Print, out: &mut [u8], at: usize, region: HeapMemoryRegion) -> usize {
-    let total = region.nr_pages;
-    let free = region.free_pages;
-    let heads = region.next_page;
-    let mut used = six(rt, out, at, b" |", total, false);
-    used = six(rt, out, used, b" |", free, false);
-    six(rt, out, used, b" |", heads, true)
-}
+// Six values, each after a blank.
+#[derive(Drop)]
+struct Six<T>([T; 6]);
 
-// A text and six numbers, or six page numbers.
-fn six(
-    rt: &impl Print,
-    out: &mut [u8],
-    at: usize,
-    first: &[u8],
-    numbers: [usize; 6],
-    pages: bool,
-) -> usize {
-    let mut used = text(rt, out, at, first);
-    for n in &numbers {
-        used = write_value(rt, out, used, value_of(*n, pages));
-    }
-    used
-}
-
-fn value_of(n: usize, page: bool) -> Value {
-    if page {
-        page_number(n)
-    } else {
-        Value::Number(n as u64)
+impl<T: Display> Display for Six<T> {
+    fn fmt<W: Write>(&self, f: &mut fmt::Formatter<W>) -> fmt::Result {
+        for value in &self.0 {
+            write!(f, " {value}")?;
+        }
+        Ok(())
     }
 }
 
 // The pages of each list, if all is sound.
-fn lists(
-    rt: &impl Print,
-    out: &mut [u8],
-    at: usize,
-    region: HeapMemoryRegion,
-    words: &[u64],
-) -> usize {
+fn lists(out: &mut impl Write, region: HeapMemoryRegion, words: &[u64]) -> fmt::Result {
     if let Done::Refused(e) = audit(region, words) {
-        return write(rt, out, at, of_answer(of_refusal(e)));
+        return writeln!(out, "{}", of_answer(of_refusal(e)));
     }
-    let heads = region.next_page;
-    let counts = region.free_pages;
-    all_lists(rt, out, at, heads, counts, words)
-}
-
-fn all_lists(
-    rt: &impl Print,
-    out: &mut [u8],
-    at: usize,
-    heads: [usize; 6],
-    counts: [usize; 6],
-    words: &[u64],
-) -> usize {
-    let mut used = at;
-    for order in 0..MAX_ORDER {
-        used = list(rt, out, used, order, heads[order], counts[order], words);
-    }
-    used
-}
-
-fn list(
-    rt: &impl Print,
-    out: &mut [u8],
-    at: usize,
-    order: usize,
-    head: usize,
-    count: usize,
-    words: &[u64],
-) -> usize {
-    let mut used = named(rt, out, at, b"list ", order as u64);
-    used = text(rt, out, used, b":");
-    used = pages_from(rt, out, used, head, count, words);
-    text(rt, out, used, b"\n")
-}
-
-// The pages of a list from `head` on, at most `count` of them.
-fn pages_from(
-    rt: &impl Print,
-    out: &mut [u8],
-    at: usize,
-    head: usize,
-    count: usize,
-    words: &[u64],
-) -> usize {
-    let mut used = at;
-    let mut page = head;
-    for _ in 0..count {
-        if page == NO_PAGE {
-            return used;
+    for (order, (head, count)) in region.next_page.iter().zip(&region.free_pages).enumerate() {
+        write!(out, "list {order}:")?;
+        for page in successors(named(*head), |page| next_of(words, *page)).take(*count) {
+            write!(out, " {page}")?;
         }
-        used = named(rt, out, used, b" ", page as u64);
-        page = next_of(words, page);
+        writeln!(out)?;
     }
-    used
+    Ok(())
 }
 
 // The page that a free page's word names.
-fn next_of(words: &[u64], page: usize) -> usize {
-    if words.len() <= page {
-        return NO_PAGE;
+fn next_of(words: &[u64], page: usize) -> Option<usize> {
+    match decode(*words.get(page)?) {
+        Decoded::Info(PageInfo::Free(free)) => named(free.next_page),
+        _ => None,
     }
-    let Decoded::Info(info) = decode(words[page]) else {
-        return NO_PAGE;
-    };
-    let PageInfo::Free(free) = info else {
-        return NO_PAGE;
-    };
-    free.next_page
+}
+
+// A page number, if it is not that of none.
+fn named(page: usize) -> Option<usize> {
+    Some(page).filter(|page| *page != NO_PAGE)
 }

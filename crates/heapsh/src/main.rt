@@ -3,37 +3,36 @@
 // input's blocks, and what a terminal has beside the answers.
 #![tactic(auto)]
 
+mod input;
 mod session;
 mod terminal;
 
-use std::io::IsTerminal;
+use crate::input::Input;
+use crate::session::Session;
+use crate::terminal::Terminal;
+use shell::{MOST_WORDS, RESERVED, Shell};
 use std::process::ExitCode;
+use text::out::Out;
 
 // Buffers for a loop that would spend its time on calls that move less.
 const BLOCK: usize = 65536;
 
 fn main(rt: HostRuntime) -> ExitCode {
     let mut reader = rt.stdin();
-    let terminal = reader.is_terminal();
-    if terminal {
-        let _ = eprintln!(rt;
-            "heapsh 0.3.0: a page heap, one request to a line; help lists the requests, quit ends"
-        );
-    }
-    let mut buffer = [shell::RESERVED; shell::MOST_WORDS];
-    let mut input = [0u8; BLOCK];
-    let mut out = [0u8; BLOCK];
-    let written = session::serve(
-        &rt,
-        &mut reader,
-        terminal,
-        &mut buffer,
-        &mut input,
-        &mut out,
+    let terminal = Terminal::new(&rt, &reader);
+    terminal.tell(
+        "heapsh 0.3.0: a page heap, one request to a line; help lists the requests, quit ends\n",
     );
-    if written {
-        ExitCode::SUCCESS
-    } else {
-        ExitCode::FAILURE
+    let mut words = [RESERVED; MOST_WORDS];
+    let mut read = [0u8; BLOCK];
+    let mut written = [0u8; BLOCK];
+    let mut session = Session {
+        terminal: &terminal,
+        shell: Shell::new(&mut words),
+        out: Out::new(&rt, &mut written),
+    };
+    match session.serve(&mut Input::new(&mut reader, &mut read)) {
+        Ok(()) => ExitCode::SUCCESS,
+        Err(_) => ExitCode::FAILURE,
     }
 }

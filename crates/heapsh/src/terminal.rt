@@ -1,6 +1,7 @@
-// What a person at a terminal has beside the answers: a prompt, lines that are passed over, and `quit`. A script has none of it. What is not
-// an answer goes to standard error.
+// What a person at a terminal has beside the answers: a greeting, a prompt, lines that are passed over, and `quit`. A script has none of it.
+// What is not an answer goes to standard error.
 use parse::input::{Command, parse};
+use std::io::IsTerminal;
 
 // The name `quit`, as parse::names has names.
 const QUIT: u64 = 0x7175_6974;
@@ -12,18 +13,40 @@ pub enum Line {
     Quit,
 }
 
-// What a line is, at a terminal or in a script.
-pub fn kind(terminal: bool, line: &[u8]) -> Line {
-    if !terminal {
-        return Line::Request;
+// Where the input comes from: a terminal, or a script.
+#[derive(Drop)]
+pub struct Terminal<'a, R> {
+    rt: &'a R,
+    is_terminal: bool,
+}
+
+impl<'a, R: Eprint> Terminal<'a, R> {
+    pub fn new(rt: &'a R, input: &impl IsTerminal) -> Self {
+        Terminal {
+            rt,
+            is_terminal: input.is_terminal(),
+        }
     }
-    if is_silent(line) {
-        return Line::Silent;
+
+    // Writes what a script has not.
+    pub fn tell(&self, text: &str) {
+        if self.is_terminal {
+            let _ = self.rt.eprint(text);
+        }
     }
-    if is_quit(line) {
-        return Line::Quit;
+
+    // What a line is.
+    pub fn kind(&self, line: &[u8]) -> Line {
+        if !self.is_terminal {
+            Line::Request
+        } else if is_silent(line) {
+            Line::Silent
+        } else if is_quit(line) {
+            Line::Quit
+        } else {
+            Line::Request
+        }
     }
-    Line::Request
 }
 
 // Whether a line is white space alone, or a comment.
@@ -40,18 +63,4 @@ fn is_silent(line: &[u8]) -> bool {
 fn is_quit(line: &[u8]) -> bool {
     let Command { count, values } = parse(line);
     count == 1 && values[0] == QUIT
-}
-
-// Asks for a line, unless `kept` bytes of one stand there already.
-pub fn prompt(rt: &impl Eprint, terminal: bool, kept: usize) {
-    if terminal && kept == 0 {
-        let _ = rt.eprint("> ");
-    }
-}
-
-// Leaves the line on which the input has ended.
-pub fn leave(rt: &impl Eprint, terminal: bool) {
-    if terminal {
-        let _ = rt.eprint("\n");
-    }
 }

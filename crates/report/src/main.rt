@@ -3,7 +3,7 @@
 
 use heap::reads::memory_info;
 use heap::start::root_mem_init;
-use text::lines::report_lines;
+use text::memory::Memory;
 use words::place::VirtAddr;
 
 fn main(rt: HostRuntime) {
@@ -14,7 +14,6 @@ fn main(rt: HostRuntime) {
     let report = memory_info(region, words);
     let total = report.total_pages;
     let free = report.free_pages;
-    let mut out = [0u8; 4096];
-    let used = report_lines(&rt, &mut out, 0, total, free);
-    text::flush(&rt, &out, used);
+    let memory = Memory { total, free };
+    let _ = print!(rt; "{memory}");
 }

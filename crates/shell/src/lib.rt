@@ -1,7 +1,6 @@
 // The shell over the heap: a request is a line, and its answer is text. The record and the lent words stay between lines.
 // For the program `heapsh`, which reads lines and lends the buffers. Below it stand `parse`, which takes a line apart, `answers`, which
-// makes the text, and the calls of `heap`. What a line leaves stands in specs/Shell.antt; of `used` and of what is written to `out` nothing
-// is promised.
+// makes the text, and the calls of `heap`. What a line leaves stands in specs/Shell.antt; of what is written nothing is promised.
 #![tactic(auto)]
 
 ghost use Rattle.std.specs.Prelude.{◌≡◌, ◌++◌, ◌≤◌, min, length, drop, replicate};
@@ -14,7 +13,8 @@ use answers::texts::write_text;
 use heap::start::empty_region;
 use parse::input::parse;
 use region::HeapMemoryRegion;
-use text::answer::{Word, bare, write};
+use std::fmt::{self, Write};
+use text::answer::{Line, Word};
 
 mod record;
 mod requests;
@@ -26,87 +26,74 @@ pub const MOST_WORDS: usize = 8192;
 // The word of a Reserved page.
 pub const RESERVED: u64 = 15;
 
-// What is kept from line to line beside the buffers: the record, how many words are lent, and how many bytes of answers wait, or that a write
-// has failed (`text::FAILED`).
-#[derive(Clone, Copy)]
-pub struct Shell {
+// What stays from line to line: the record, how many words are lent, and the buffer whose first words these are.
+#[derive(Drop)]
+pub struct Shell<'a> {
     pub region: HeapMemoryRegion,
     pub lent: usize,
-    pub used: usize,
+    pub buffer: &'a mut [u64],
 }
 
-pub fn fresh() -> Shell
-    ensures { result ≡ record { region = empty_region; lent = 0; used = 0 } }
-{
-    Shell {
-        region: empty_region(),
-        lent: 0,
-        used: 0,
-    }
-}
-
-// Answers a line. The buffer has at least the words that are lent.
-#[tactic(auto, unfolding(crate::specs::Shell::answered))]
-pub fn answer(
-    rt: &impl Print,
-    shell: Shell,
-    line: &[u8],
-    buffer: &mut [u64],
-    out: &mut [u8],
-) -> Shell
-    ensures { held result.region result.lent buffer.new ≡ answered shell.region shell.lent buffer.old line.now }
-{
-    let Shell { region, lent, used } = shell;
-    if buffer.len() < lent {
-        return shell;
-    }
-    let done = act(region, &mut buffer[0..lent], parse(line));
-    finish(rt, done, lent, used, buffer, out)
-}
-
-// Writes the reply, and lends other words if it says so.
-fn finish(
-    rt: &impl Print,
-    done: Step,
-    lent: usize,
-    used: usize,
-    buffer: &mut [u64],
-    out: &mut [u8],
-) -> Shell
-    requires { lent ≤ length buffer.old }
-    ensures { held result.region result.lent buffer.new ≡ settled done.region lent buffer.old done.reply }
-{
-    let Step { region, reply } = done;
-    match reply {
-        Reply::Line(line) => Shell {
-            region,
-            lent,
-            used: write(rt, out, used, line),
-        },
-        Reply::Lent(n) => Shell {
-            region,
-            lent: reserve(buffer, n),
-            used: write(rt, out, used, bare(Word::Ok)),
-        },
-        Reply::Text(request) => Shell {
-            region,
-            lent,
-            used: write_text(rt, out, used, request, region, &buffer[0..lent]),
-        },
-    }
-}
-
-// Makes the first `n` words Reserved, as far as there are so many.
-fn reserve(buffer: &mut [u64], n: usize) -> usize
-    ensures { (result ≡ min n (length buffer.old)) × (buffer.new ≡ replicate result 15 ++ drop result buffer.old) }
-{
-    let mut i: usize = 0;
-    while i < n {
-        if buffer.len() <= i {
-            return i;
+impl<'a> Shell<'a> {
+    pub fn new(buffer: &'a mut [u64]) -> Self
+        ensures region { result.region ≡ empty_region }
+        ensures lent { result.lent ≡ 0 }
+        ensures buffer { result.buffer.now ≡ buffer.old }
+        ensures same_buffer { result.buffer.ghost_name ≡ buffer.entry.ghost_name }
+    {
+        Shell {
+            region: empty_region(),
+            lent: 0,
+            buffer,
         }
-        buffer[i] = RESERVED;
-        i += 1;
     }
-    i
+
+    // Answers a line. A shell that lends more words than its buffer has answers nothing.
+    #[tactic(auto, unfolding(crate::specs::Shell::answered))]
+    pub fn answer(&mut self, line: &[u8], out: &mut impl Write) -> fmt::Result
+        ensures left { held self.new.region self.new.lent self.new.buffer.now ≡ answered self.old.region self.old.lent self.old.buffer.now line.now }
+        ensures same_buffer { self.new.buffer.ghost_name ≡ self.old.buffer.ghost_name }
+    {
+        if self.buffer.len() < self.lent {
+            return Ok(());
+        }
+        let Step { region, reply } = act(self.region, &mut self.buffer[..self.lent], parse(line));
+        self.region = region;
+        self.settle(reply, out)
+    }
+
+    // Writes the reply, and lends other words if it says so.
+    fn settle(&mut self, reply: Reply, out: &mut impl Write) -> fmt::Result
+        requires { self.old.lent ≤ length self.old.buffer.now }
+        ensures left { held self.new.region self.new.lent self.new.buffer.now ≡ settled self.old.region self.old.lent self.old.buffer.now reply }
+        ensures same_buffer { self.new.buffer.ghost_name ≡ self.old.buffer.ghost_name }
+    {
+        match reply {
+            Reply::Line(line) => writeln!(out, "{line}"),
+            Reply::Lent(n) => {
+                self.lend(n);
+                let ok = Line::new(Word::Ok, &[]);
+                writeln!(out, "{ok}")
+            }
+            Reply::Text(request) => write_text(out, request, self.region, self.words()),
+        }
+    }
+
+    // The words that are lent.
+    fn words(&self) -> &[u64]
+        requires { self.now.lent ≤ length self.now.buffer.now }
+    {
+        &self.buffer[..self.lent]
+    }
+
+    // Lends `n` words, all Reserved, or as many as the buffer has.
+    fn lend(&mut self, n: usize)
+        ensures region { self.new.region ≡ self.old.region }
+        ensures lent { self.new.lent ≡ min n (length self.old.buffer.now) }
+        ensures reserved { self.new.buffer.now ≡ replicate self.new.lent 15 ++ drop self.new.lent self.old.buffer.now }
+        ensures same_buffer { self.new.buffer.ghost_name ≡ self.old.buffer.ghost_name }
+    {
+        self.lent = n.min(self.buffer.len());
+        self.buffer[..self.lent].fill(RESERVED);
+    }
 }

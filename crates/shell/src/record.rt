@@ -7,7 +7,7 @@ use crate::steps::{Step, said};
 use answers::lines::bad;
 use parse::names;
 use region::HeapMemoryRegion;
-use text::answer::{Word, bare};
+use text::answer::{Line, Word};
 use words::place::VirtAddr;
 use words::word::MAX_ORDER;
 
@@ -17,7 +17,7 @@ pub fn field(region: HeapMemoryRegion, name: u64, i: usize, value: u64) -> Step
     ensures { (ws : List ℕ) → did result.region ws result.reply ≡ with_three region ws Name.field name i value }
 {
     if has_field(name, i) {
-        said(with_field(region, name, i, value), bare(Word::Ok))
+        said(with_field(region, name, i, value), Line::new(Word::Ok, &[]))
     } else {
         said(region, bad())
     }

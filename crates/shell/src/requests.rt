@@ -18,7 +18,7 @@ use parse::input::Command;
 use parse::names;
 use region::HeapMemoryRegion;
 use sound_calls::{Counted, Finished, Granted, of_count, of_done, of_grant, of_layout};
-use text::answer::{Line, Word, bare};
+use text::answer::{Line, Word};
 use words::place::VirtAddr;
 
 // Does what a request asks for. It is known by its name and the count of its words.
@@ -118,9 +118,9 @@ fn word_at(words: &[u64], i: usize) -> Line
     ensures { (r : HeapMemoryRegion) → result ≡ reads r words.now Name.word i }
 {
     if i < words.len() {
-        bare(Word::Hex(words[i]))
+        Line::new(Word::Hex(words[i]), &[])
     } else {
-        bare(Word::Out)
+        Line::new(Word::Out, &[])
     }
 }
 
@@ -141,9 +141,9 @@ fn poke(words: &mut [u64], i: usize, w: u64) -> Line
 {
     if i < words.len() {
         words[i] = w;
-        bare(Word::Ok)
+        Line::new(Word::Ok, &[])
     } else {
-        bare(Word::Out)
+        Line::new(Word::Out, &[])
     }
 }
 

@@ -1,5 +1,5 @@
--- An answer of one line: a word, and up to three values; None where there is none.
-use Rattle.std.specs.Prelude.{List, slice_index_or}
+-- An answer of one line: a word, and up to three values.
+use Rattle.std.specs.Prelude.{List, [], ◌∷◌, slice_get}
 use Rattle.text.specs.declared.answer.Word.{Word}
 use Rattle.text.specs.declared.answer.Value.{Value}
 use Rattle.text.specs.declared.answer.Line.{Line}
@@ -7,7 +7,5 @@ use Rattle.text.specs.declared.answer.Line.{Line}
 abbrev pub line : Word → List Value → Line
 line word vs = record {
   word = word;
-  first = slice_index_or vs 0 Value.None;
-  second = slice_index_or vs 1 Value.None;
-  third = slice_index_or vs 2 Value.None;
+  values = slice_get vs 0 ∷ slice_get vs 1 ∷ slice_get vs 2 ∷ [];
 }

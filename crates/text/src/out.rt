@@ -1,0 +1,65 @@
+// Standard output, by way of a buffer that the caller lends.
+ghost use Rattle.std.specs.Prelude.{◌≡◌, ◌≤◌, length, IfOk, IsOkAnd};
+ghost use Rattle.std.specs.Result.{ForOk};
+
+use std::fmt;
+
+// What is written waits in the buffer. What does not fit is written out at once, so nothing is cut off. Once a write has failed each answer is
+// an error, and nothing is written any more.
+#[derive(Drop)]
+pub struct Out<'a, P> {
+    rt: &'a P,
+    buffer: &'a mut [u8],
+    // How many bytes wait at the buffer's front, where no write has failed.
+    waiting: Result<usize, fmt::Error>,
+    ghost fits: { ForOk waiting (λ n. n ≤ length buffer.now) },
+}
+
+impl<'a, P: Print> Out<'a, P> {
+    pub fn new(rt: &'a P, buffer: &'a mut [u8]) -> Self
+        ensures { IsOkAnd result.waiting (λ n. n ≡ 0) }
+    {
+        Out {
+            rt,
+            buffer,
+            waiting: Ok(0),
+        }
+    }
+
+    // Writes what waits.
+    pub fn flush(&mut self) -> fmt::Result {
+        let rt = self.rt;
+        let waiting = self.waiting?;
+        self.waiting = written(rt, &self.buffer[..waiting]);
+        self.waiting?;
+        Ok(())
+    }
+}
+
+impl<P: Print> fmt::Write for Out<'_, P> {
+    fn write_str(&mut self, s: &str) -> fmt::Result {
+        let bytes = s.as_bytes();
+        if self.buffer.len() - self.waiting? < bytes.len() {
+            self.flush()?;
+        }
+        let from = self.waiting?;
+        if bytes.len() <= self.buffer.len() - from {
+            self.buffer[from..from + bytes.len()].copy_from_slice(bytes);
+            self.waiting = Ok(from + bytes.len());
+        } else {
+            self.waiting = written(self.rt, bytes);
+        }
+        self.waiting?;
+        Ok(())
+    }
+}
+
+// How many bytes wait after these are written.
+fn written(rt: &impl Print, bytes: &[u8]) -> Result<usize, fmt::Error>
+    ensures { IfOk result (λ n. n ≡ 0) }
+{
+    match rt.write_all(bytes) {
+        Ok(()) => Ok(0),
+        Err(_) => Err(fmt::Error),
+    }
+}
