@@ -5,7 +5,6 @@ use crate::lines::{of_answer, page_number};
 use heap::Report;
 use heap::reads::{audit, memory_info};
 use heap::word::decode;
-use parse::names;
 use region::HeapMemoryRegion;
 use sound_calls::{Done, of_refusal};
 use text::answer::{Value, write, write_value};
@@ -13,21 +12,31 @@ use text::lines::report_lines;
 use text::{decimal, hex, named, text};
 use words::word::{Decoded, MAX_ORDER, NO_PAGE, PageInfo};
 
+// Which text a request asks for.
+#[derive(Clone, Copy, Debug, PartialEq, Eq)]
+pub enum TextKind {
+    Report,
+    Print,
+    Lists,
+    State,
+    Help,
+}
+
 // Writes what a request asks for.
 pub fn write_text(
     rt: &impl Print,
     out: &mut [u8],
     at: usize,
-    request: u64,
+    kind: TextKind,
     region: HeapMemoryRegion,
     words: &[u64],
 ) -> usize {
-    match request {
-        names::REPORT => report(rt, out, at, memory_info(region, words), false),
-        names::PRINT => report(rt, out, at, memory_info(region, words), true),
-        names::LISTS => lists(rt, out, at, region, words),
-        names::STATE => state(rt, out, at, region, words),
-        _ => help(rt, out, at),
+    match kind {
+        TextKind::Report => report(rt, out, at, memory_info(region, words), false),
+        TextKind::Print => report(rt, out, at, memory_info(region, words), true),
+        TextKind::Lists => lists(rt, out, at, region, words),
+        TextKind::State => state(rt, out, at, region, words),
+        TextKind::Help => help(rt, out, at),
     }
 }
 

@@ -88,10 +88,10 @@ fn finish(
             lent: reserve(buffer, n),
             used: write(rt, out, used, bare(Word::Ok)),
         },
-        Reply::Text(request) => Shell {
+        Reply::Text(kind) => Shell {
             region,
             lent,
-            used: write_text(rt, out, used, request, region, &buffer[0..lent]),
+            used: write_text(rt, out, used, kind, region, &buffer[0..lent]),
         },
     }
 }

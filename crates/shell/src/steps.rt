@@ -4,6 +4,7 @@ ghost use Rattle.answers.specs.Lines.{line_of};
 ghost use Rattle.shell.specs.Request.{step};
 
 use answers::lines::of_answer;
+use answers::texts::TextKind;
 use region::HeapMemoryRegion;
 use sound_calls::Answer;
 use text::answer::Line;
@@ -14,8 +15,8 @@ pub enum Reply {
     Line(Line),
     // So many words are lent from now on.
     Lent(usize),
-    // What the request of this name asks for, made of the record and the words.
-    Text(u64),
+    // A text that is made of the record and the words.
+    Text(TextKind),
 }
 
 #[derive(Clone, Copy)]
