@@ -28,20 +28,20 @@ abbrev pub every : (ℕ → Bool) → List ℕ → Bool
 every t [] = true
 every t (b ∷ bs) = t b && every t bs
 
--- digits as a number to a base, the first one highest, after n
-abbrev pub value_from : ℕ → (ℕ → ℕ) → ℕ → List ℕ → ℕ
-value_from base digit n [] = n
-value_from base digit n (b ∷ bs) = value_from base digit (n * base + digit b) bs
-
 -- what a digit counts; 16 for a byte that is none
 abbrev pub digit_of : ℕ → ℕ
 digit_of b = cond (leb 48 b && leb b 57) (b - 48) (cond (leb 97 b && leb b 102) (b - 97 + 10) 16)
 
+-- digits as a number to a base, the first one highest, after n
+abbrev pub value_from : ℕ → ℕ → List ℕ → ℕ
+value_from base n [] = n
+value_from base n (b ∷ bs) = value_from base (n * base + digit_of b) bs
+
 -- a number: 1 to `longest` digits, at most 2^64 - 1
 unfoldable pub number_of : ℕ → ℕ → List ℕ → Option ℕ
 number_of base longest w =
-    cond (leb 1 (length w) && leb (length w) longest && every (λ b. ltb (digit_of b) base) w && ltb (value_from base digit_of 0 w) (2 ^ 64))
-    (Some (value_from base digit_of 0 w))
+    cond (leb 1 (length w) && leb (length w) longest && every (λ b. ltb (digit_of b) base) w && ltb (value_from base 0 w) (2 ^ 64))
+    (Some (value_from base 0 w))
     None
 
 abbrev pub number : List ℕ → Option ℕ
