@@ -3,7 +3,6 @@
 use Rattle.common.specs.Kit.{◌≡◌, refl, List, [], ◌∷◌, map}
 use Rattle.std.specs.Prelude.{Option, Some, None, codes}
 use Prim.Native.String.{String}
-use Rattle.words.specs.declared.place.VirtAddr.{VirtAddr}
 use Rattle.parse.specs.Line.{words_of, number_of, field_of, asked, parsed}
 use Rattle.parse.specs.declared.request.Field.{Field}
 use Rattle.parse.specs.declared.request.Request.{Request}

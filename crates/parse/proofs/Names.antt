@@ -1,12 +1,16 @@
 -- A word that is no text is no name.
 use Rattle.common.specs.Kit.{ℕ, zero, suc, ltb, ◌≡◌, refl, Bool, true, ◌&&◌, List, [], ◌∷◌, ltb-true, arith}
-use Rattle.std.specs.Prelude.{Option, None, IsUtf8, IsAscii, bytes_eq, codes}
+use Rattle.std.specs.Prelude.{None, IsUtf8, IsAscii, bytes_eq, codes}
 use Rattle.std.proofs.lemmas.Str.{IsUtf8-from_ascii}
 use Rattle.std.proofs.lemmas.Bool.{and_parts}
 use Rattle.std.proofs.lemmas.Slice.Eq.{bytes_eq-Decides}
 use Prim.Native.String.{String}
 use Rattle.common.proofs.Tests.{by-test}
-use Rattle.parse.specs.Line.{every, found, fields, requests, field_of, asked}
+use Rattle.parse.specs.Line.{found, fields, requests, field_of, asked}
+
+abbrev every : (ℕ → Bool) → List ℕ → Bool
+every t [] = true
+every t (b ∷ bs) = t b && every t bs
 
 ascii : (l : List ℕ) → every (λ b. ltb b 128) l ≡ true → IsAscii l
 ascii [] e i = omega arith

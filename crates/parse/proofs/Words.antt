@@ -1,6 +1,5 @@
 -- Past the white space of a line there is either nothing more, or a run of other bytes that is the next word.
 use Rattle.common.specs.Kit.{ℕ, suc, Bool, cond, ◌-◌, ◌≤◌, ◌<◌, ◌≡◌, refl, ap, ◌∙◌, true, false, List, [], ◌∷◌, length, take, drop, length-drop, take_all, arith}
-use native.Mathlib.Nat.{sub-zero}
 use Rattle.common.proofs.Tests.{by-test}
 use Rattle.std.specs.Bool.{beq}
 use Rattle.std.specs.List.{prefix_len}

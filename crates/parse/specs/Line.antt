@@ -23,26 +23,24 @@ unfoldable pub words_of : List ℕ → List (List ℕ)
 words_of [] = []
 words_of (b ∷ bs) = cond (blank b) (words_of bs) (cond (begins bs) ((b ∷ []) ∷ words_of bs) (before b (words_of bs)))
 
--- bytes all pass a test
-abbrev pub every : (ℕ → Bool) → List ℕ → Bool
-every t [] = true
-every t (b ∷ bs) = t b && every t bs
+-- a number below a bound
+abbrev pub below : ℕ → Option ℕ → Option ℕ
+below bound None = None
+below bound (Some n) = cond (ltb n bound) (Some n) None
 
--- what a digit counts; 16 for a byte that is none
-abbrev pub digit_of : ℕ → ℕ
-digit_of b = cond (leb 48 b && leb b 57) (b - 48) (cond (leb 97 b && leb b 102) (b - 97 + 10) 16)
+-- what a digit to a base counts
+abbrev pub digit_of : ℕ → ℕ → Option ℕ
+digit_of base b =
+    below base (cond (leb 48 b && leb b 57) (Some (b - 48)) (cond (leb 97 b && leb b 102) (Some (b - 97 + 10)) None))
 
 -- digits as a number to a base, the first one highest, after n
-abbrev pub value_from : ℕ → ℕ → List ℕ → ℕ
-value_from base n [] = n
-value_from base n (b ∷ bs) = value_from base (n * base + digit_of b) bs
+abbrev pub value_from : ℕ → ℕ → List ℕ → Option ℕ
+value_from base n [] = Some n
+value_from base n (b ∷ bs) = option_and_then (λ d. value_from base (n * base + d) bs) (digit_of base b)
 
 -- a number: 1 to `longest` digits, at most 2^64 - 1
 unfoldable pub number_of : ℕ → ℕ → List ℕ → Option ℕ
-number_of base longest w =
-    cond (leb 1 (length w) && leb (length w) longest && every (λ b. ltb (digit_of b) base) w && ltb (value_from base 0 w) (2 ^ 64))
-    (Some (value_from base 0 w))
-    None
+number_of base longest w = cond (leb 1 (length w) && leb (length w) longest) (below (2 ^ 64) (value_from base 0 w)) None
 
 abbrev pub number : List ℕ → Option ℕ
 number w = number_of 10 20 w

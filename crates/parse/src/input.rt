@@ -1,5 +1,5 @@
 // A line of the input, taken apart word by word.
-ghost use Rattle.std.specs.Prelude.{◌≡◌, ◌≤◌, ◌∷◌, [], cond, ltb, length, MatchOption, Some, None, option_copied};
+ghost use Rattle.std.specs.Prelude.{◌≡◌, ◌≤◌, ◌∷◌, [], length, MatchOption, option_copied};
 ghost use Rattle.std.specs.Bool.{beq};
 ghost use Rattle.std.specs.List.{prefix_len};
 ghost use Rattle.parse.specs.declared.request.Request.{Request};
@@ -194,7 +194,7 @@ fn hex(word: &[u8]) -> Option<u64>
 }
 
 // 1 to `longest` digits, if what they say fits.
-#[tactic(auto, unfolding(crate::specs::Line::number_of, crate::proofs::Numbers::number_from), using(crate::proofs::Numbers::number_big))]
+#[tactic(auto, unfolding(crate::specs::Line::number_of), using(crate::proofs::Numbers::sum_big, crate::proofs::Numbers::product_big))]
 fn digits(word: &[u8], base: u64, longest: usize) -> Option<u64>
     requires { 1 ≤ base }
     ensures { result ≡ number_of base longest word.now }
@@ -210,12 +210,12 @@ fn digits(word: &[u8], base: u64, longest: usize) -> Option<u64>
 }
 
 fn digit(b: u8, base: u64) -> Option<u64>
-    ensures { result ≡ cond (ltb (digit_of b) base) (Some (digit_of b)) None }
+    ensures { result ≡ digit_of base b }
 {
     let d = match b {
         b'0'..=b'9' => (b - b'0') as u64,
         b'a'..=b'f' => (b - b'a') as u64 + 10,
-        _ => 16,
+        _ => return None,
     };
     if d < base { Some(d) } else { None }
 }
