@@ -1,24 +1,24 @@
 -- Answers as lines (README.md, "The shell"): `ok` or `no`, and what an answer of the heap carries; and what a word says.
-use Rattle.std.specs.Prelude.{ℕ, cond, List, [], ◌∷◌, eqb, map, take}
+use Rattle.std.specs.Prelude.{ℕ, cond, [], ◌∷◌, eqb, Option, Some, None, option_map}
 use Rattle.words.specs.Word.{no_page}
 use Rattle.words.specs.declared.word.PageInfo.{PageInfo}
 use Rattle.words.specs.declared.word.PageInfo.TheVariants as Page
-use Rattle.words.specs.declared.word.Decoded.{Decoded}
-use Rattle.words.specs.declared.word.Decoded.TheVariants.{Info}
-use Rattle.words.specs.declared.word.Encoded.{Encoded}
+use Rattle.words.specs.declared.word.PageStorageType.{PageStorageType}
 use Rattle.sound_calls.specs.declared.Answer.{Answer}
 use Rattle.text.specs.Line.{line}
 use Rattle.text.specs.declared.answer.Line.{Line}
 use Rattle.text.specs.declared.answer.Word.{Word}
 use Rattle.text.specs.declared.answer.Value.{Value}
 
--- the values that an answer carries, two at most
-abbrev pub carried : Answer → List Value
-carried t = map Value.Number (take t.carries (t.value ∷ t.second ∷ []))
+-- a value that an answer carries, if it does
+abbrev pub carried : Option ℕ → Option Value
+carried = option_map Value.Number
 
 -- `ok` and what the answer carries, or `no`, the refusal's number and what it carries
 unfoldable pub line_of : Answer → Line
-line_of t = cond (eqb t.number 0) (line Word.Ok (carried t)) (line Word.No (Value.Number t.number ∷ carried t))
+line_of t = cond (eqb t.number 0)
+    (record { word = Word.Ok; values = carried t.value ∷ carried t.second ∷ None ∷ [] })
+    (record { word = Word.No; values = Some (Value.Number t.number) ∷ carried t.value ∷ carried t.second ∷ [] })
 
 -- a page, `-` for none
 abbrev pub page_value : ℕ → Value
@@ -32,10 +32,10 @@ page_line (Page.Compound i) = line Word.Compound (Value.Number i.order ∷ [])
 page_line (Page.File i) = line Word.File (Value.Number i.ref_count ∷ [])
 page_line (Page.Reserved i) = line Word.Reserved []
 
-abbrev pub decoded_line : Decoded → Line
-decoded_line (Info i) = page_line i
-decoded_line Decoded.No = line Word.No []
+abbrev pub decoded_line : Option PageInfo → Line
+decoded_line (Some i) = page_line i
+decoded_line None = line Word.No []
 
-abbrev pub encoded_line : Encoded → Line
-encoded_line (Encoded.Word w) = line Word.Ok (Value.Hex w.0 ∷ [])
-encoded_line Encoded.No = line Word.No []
+abbrev pub encoded_line : Option PageStorageType → Line
+encoded_line (Some w) = line Word.Ok (Value.Hex w.0 ∷ [])
+encoded_line None = line Word.No []

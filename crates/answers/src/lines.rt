@@ -7,7 +7,7 @@ ghost use Rattle.answers.specs.Lines.{line_of, page_value, page_line, decoded_li
 
 use sound_calls::Answer;
 use text::answer::{Line, Value, Word};
-use words::word::{Decoded, Encoded, NO_PAGE, PageInfo};
+use words::word::{NO_PAGE, PageInfo, PageStorageType};
 
 pub fn bad() -> Line
     ensures { result ≡ line Word.Bad [] }
@@ -27,34 +27,36 @@ pub fn number(n: u64) -> Line
 pub fn of_answer(answer: Answer) -> Line
     ensures { result ≡ line_of answer }
 {
-    let values = [
-        Value::Number(answer.number),
-        Value::Number(answer.value),
-        Value::Number(answer.second),
-    ];
-    let end = 1 + answer.carries.min(2) as usize;
+    let value = answer.value.map(Value::Number);
+    let second = answer.second.map(Value::Number);
     if answer.number == 0 {
-        Line::new(Word::Ok, &values[1..end])
+        Line {
+            word: Word::Ok,
+            values: [value, second, None],
+        }
     } else {
-        Line::new(Word::No, &values[..end])
+        Line {
+            word: Word::No,
+            values: [Some(Value::Number(answer.number)), value, second],
+        }
     }
 }
 
-pub fn of_encoded(encoded: Encoded) -> Line
+pub fn of_encoded(encoded: Option<PageStorageType>) -> Line
     ensures { result ≡ encoded_line encoded }
 {
     match encoded {
-        Encoded::Word(w) => Line::new(Word::Ok, &[Value::Hex(w.0)]),
-        Encoded::No => Line::new(Word::No, &[]),
+        Some(w) => Line::new(Word::Ok, &[Value::Hex(w.0)]),
+        None => Line::new(Word::No, &[]),
     }
 }
 
-pub fn of_decoded(decoded: Decoded) -> Line
+pub fn of_decoded(decoded: Option<PageInfo>) -> Line
     ensures { result ≡ decoded_line decoded }
 {
     match decoded {
-        Decoded::Info(info) => page(info),
-        Decoded::No => Line::new(Word::No, &[]),
+        Some(info) => page(info),
+        None => Line::new(Word::No, &[]),
     }
 }
 

@@ -2,31 +2,39 @@
 use crate::hash::fnv;
 use crate::help::HELP;
 use crate::lines::{of_answer, page_number};
-use heap::Report;
 use heap::reads::{audit, memory_info};
 use heap::word::decode;
-use parse::names;
 use region::HeapMemoryRegion;
-use sound_calls::{Done, of_refusal};
+use sound_calls::Answer;
 use std::fmt::{self, Display, Write};
 use std::iter::successors;
 use text::answer::Line;
 use text::memory::Memory;
-use words::word::{Decoded, NO_PAGE, PageInfo};
+use words::word::{NO_PAGE, PageInfo};
+
+// Which text a request asks for.
+#[derive(Clone, Copy, Debug, PartialEq, Eq)]
+pub enum TextKind {
+    Report,
+    Print,
+    Lists,
+    State,
+    Help,
+}
 
 // Writes what a request asks for.
 pub fn write_text(
     out: &mut impl Write,
-    request: u64,
+    kind: TextKind,
     region: HeapMemoryRegion,
     words: &[u64],
 ) -> fmt::Result {
-    match request {
-        names::REPORT => report(out, region, words),
-        names::PRINT => print(out, region, words),
-        names::LISTS => lists(out, region, words),
-        names::STATE => state(out, region, words),
-        _ => out.write_str(HELP),
+    match kind {
+        TextKind::Report => report(out, region, words),
+        TextKind::Print => print(out, region, words),
+        TextKind::Lists => lists(out, region, words),
+        TextKind::State => state(out, region, words),
+        TextKind::Help => out.write_str(HELP),
     }
 }
 
@@ -52,18 +60,10 @@ fn print(out: &mut impl Write, region: HeapMemoryRegion, words: &[u64]) -> fmt::
 
 // The blocks of each order, or the line of the refusal.
 fn memory(region: HeapMemoryRegion, words: &[u64]) -> Result<Memory, Line> {
-    let Report {
-        answer,
-        total_pages,
-        free_pages,
-    } = memory_info(region, words);
-    match answer {
-        Done::Ok => Ok(Memory {
-            total: total_pages,
-            free: free_pages,
-        }),
-        Done::Refused(e) => Err(of_answer(of_refusal(e))),
-    }
+    let report = memory_info(region, words).map_err(|e| of_answer(Answer::from(e)))?;
+    let total = report.total_pages;
+    let free = report.free_pages;
+    Ok(Memory { total, free })
 }
 
 // The record, and the hash of the words.
@@ -97,8 +97,8 @@ impl<T: Display> Display for Six<T> {
 
 // The pages of each list, if all is sound.
 fn lists(out: &mut impl Write, region: HeapMemoryRegion, words: &[u64]) -> fmt::Result {
-    if let Done::Refused(e) = audit(region, words) {
-        return writeln!(out, "{}", of_answer(of_refusal(e)));
+    if let Err(e) = audit(region, words) {
+        return writeln!(out, "{}", of_answer(Answer::from(e)));
     }
     for (order, (head, count)) in region.next_page.iter().zip(&region.free_pages).enumerate() {
         write!(out, "list {order}:")?;
@@ -113,7 +113,7 @@ fn lists(out: &mut impl Write, region: HeapMemoryRegion, words: &[u64]) -> fmt::
 // The page that a free page's word names.
 fn next_of(words: &[u64], page: usize) -> Option<usize> {
     match decode(*words.get(page)?) {
-        Decoded::Info(PageInfo::Free(free)) => named(free.next_page),
+        Some(PageInfo::Free(free)) => named(free.next_page),
         _ => None,
     }
 }

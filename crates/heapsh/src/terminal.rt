@@ -1,10 +1,7 @@
 // What a person at a terminal has beside the answers: a greeting, a prompt, lines that are passed over, and `quit`. A script has none of it.
 // What is not an answer goes to standard error.
-use parse::input::{Command, parse};
+use parse::input::{LONGEST, next_word, only_word};
 use std::io::IsTerminal;
-
-// The name `quit`, as parse::names has names.
-const QUIT: u64 = 0x7175_6974;
 
 #[derive(Clone, Copy)]
 pub enum Line {
@@ -51,16 +48,12 @@ impl<'a, R: Eprint> Terminal<'a, R> {
 
 // Whether a line is white space alone, or a comment.
 fn is_silent(line: &[u8]) -> bool {
-    for b in line {
-        match *b {
-            b' ' | 9..=13 => {}
-            b => return b == b'#',
-        }
+    match next_word(line) {
+        None => true,
+        Some((word, _)) => word.starts_with(b"#"),
     }
-    true
 }
 
 fn is_quit(line: &[u8]) -> bool {
-    let Command { count, values } = parse(line);
-    count == 1 && values[0] == QUIT
+    line.len() <= LONGEST && matches!(only_word(line), Some(b"quit"))
 }

@@ -1,70 +1,61 @@
--- Lines by computation: each name of specs/Names.antt is what `parsed` makes of a line that begins with it, or has it as a field; blanks and
+-- Lines by computation: each name of README.md's table, and of a field, is what `parsed` makes of a line that begins with it, or has it as a field; blanks and
 -- numbers at their ends; and lines that say nothing. These are results.
-use Rattle.common.specs.Kit.{ℕ, ◌-◌, ◌≡◌, refl, List, [], ◌∷◌, ◌++◌, map, length, replicate}
-use Prim.Native.Char.{code}
-use Prim.Native.String.{String, [] as end, ◌∷◌ as ◌then◌}
-use Rattle.parse.specs.Line.{words_of, number_of, name_of, says_at, asked, none, parsed}
-use Rattle.parse.specs.declared.input.Command.{Command}
-use Rattle.parse.specs.Names as Name
-
--- a text's bytes
-bytes : String → List ℕ
-bytes end = []
-bytes (c then s) = code c ∷ bytes s
-
--- a name, and what it is asked with
-request : List ℕ → Command
-request ws = record { count = length ws; values = ws ++ replicate (4 - length ws) 0 }
+use Rattle.common.specs.Kit.{◌≡◌, refl, List, [], ◌∷◌, map}
+use Rattle.std.specs.Prelude.{Option, Some, None, codes}
+use Prim.Native.String.{String}
+use Rattle.parse.specs.Line.{words_of, number_of, field_of, asked, parsed}
+use Rattle.parse.specs.declared.request.Field.{Field}
+use Rattle.parse.specs.declared.request.Request.{Request}
 
 -- a line for each name
-named : List (String × Command)
+named : List (String × Option Request)
 named =
-    ("words 4096", request (Name.words ∷ 4096 ∷ []))
-    ∷ ("setup 65536 512 2", request (Name.setup ∷ 65536 ∷ 512 ∷ 2 ∷ []))
-    ∷ ("alloc 1", request (Name.alloc ∷ 1 ∷ []))
-    ∷ ("file", request (Name.file ∷ []))
-    ∷ ("slab 64", request (Name.slab ∷ 64 ∷ []))
-    ∷ ("free 4096", request (Name.free ∷ 4096 ∷ []))
-    ∷ ("get 4096", request (Name.get ∷ 4096 ∷ []))
-    ∷ ("put 4096", request (Name.put ∷ 4096 ∷ []))
-    ∷ ("lookup 4096", request (Name.lookup ∷ 4096 ∷ []))
-    ∷ ("report", request (Name.report ∷ []))
-    ∷ ("audit", request (Name.audit ∷ []))
-    ∷ ("print", request (Name.print ∷ []))
-    ∷ ("lists", request (Name.lists ∷ []))
-    ∷ ("state", request (Name.state ∷ []))
-    ∷ ("word 3", request (Name.word ∷ 3 ∷ []))
-    ∷ ("poke 3 ff", request (Name.poke ∷ 3 ∷ 255 ∷ []))
-    ∷ ("field nr 5 7", request (Name.field ∷ Name.nr ∷ 5 ∷ 7 ∷ []))
-    ∷ ("field free 5 7", request (Name.field ∷ Name.free ∷ 5 ∷ 7 ∷ []))
-    ∷ ("field head 5 7", request (Name.field ∷ Name.head ∷ 5 ∷ 7 ∷ []))
-    ∷ ("field start 0 4096", request (Name.field ∷ Name.start ∷ 0 ∷ 4096 ∷ []))
-    ∷ ("field pages 0 64", request (Name.field ∷ Name.pages ∷ 0 ∷ 64 ∷ []))
-    ∷ ("field boot 0 3", request (Name.field ∷ Name.boot ∷ 0 ∷ 3 ∷ []))
-    ∷ ("encode 2 64 0", request (Name.encode ∷ 2 ∷ 64 ∷ 0 ∷ []))
-    ∷ ("decode ff", request (Name.decode ∷ 255 ∷ []))
-    ∷ ("order 4097", request (Name.order ∷ 4097 ∷ []))
-    ∷ ("help", request (Name.help ∷ []))
+    ("words 4096", Some (Request.Words 4096))
+    ∷ ("setup 65536 512 2", Some (Request.Setup (record { 0 = 65536 }) 512 2))
+    ∷ ("alloc 1", Some (Request.Alloc 1))
+    ∷ ("file", Some Request.File)
+    ∷ ("slab 64", Some (Request.Slab 64))
+    ∷ ("free 4096", Some (Request.Free (record { 0 = 4096 })))
+    ∷ ("get 4096", Some (Request.Get (record { 0 = 4096 })))
+    ∷ ("put 4096", Some (Request.Put (record { 0 = 4096 })))
+    ∷ ("lookup 4096", Some (Request.Lookup (record { 0 = 4096 })))
+    ∷ ("report", Some Request.Report)
+    ∷ ("audit", Some Request.Audit)
+    ∷ ("print", Some Request.Print)
+    ∷ ("lists", Some Request.Lists)
+    ∷ ("state", Some Request.State)
+    ∷ ("word 3", Some (Request.Word 3))
+    ∷ ("poke 3 ff", Some (Request.Poke 3 255))
+    ∷ ("field nr 5 7", Some (Request.Field Field.Nr 5 7))
+    ∷ ("field free 5 7", Some (Request.Field Field.Free 5 7))
+    ∷ ("field head 5 7", Some (Request.Field Field.Head 5 7))
+    ∷ ("field start 0 4096", Some (Request.Field Field.Start 0 4096))
+    ∷ ("field pages 0 64", Some (Request.Field Field.Pages 0 64))
+    ∷ ("field boot 0 3", Some (Request.Field Field.Boot 0 3))
+    ∷ ("encode 2 64 0", Some (Request.Encode 2 64 0))
+    ∷ ("decode ff", Some (Request.Decode 255))
+    ∷ ("order 4097", Some (Request.Order 4097))
+    ∷ ("help", Some Request.Help)
     ∷ []
 
--- blanks before, between and after; the largest number, and one more; an upper-case digit; a fifth word; nothing
-odd : List (String × Command)
+-- blanks before, between and after; the largest number, and one more; a digit that is none; a fifth word; nothing
+odd : List (String × Option Request)
 odd =
-    ("\tpoke  3 0ff \r", request (Name.poke ∷ 3 ∷ 255 ∷ []))
-    ∷ ("order 18446744073709551615", request (Name.order ∷ 18446744073709551615 ∷ []))
-    ∷ ("order 18446744073709551616", none)
-    ∷ ("poke 3 f_f", none)
-    ∷ ("setup 4096 1 0 0", none)
-    ∷ ("", none)
+    ("\tpoke  3 0ff \r", Some (Request.Poke 3 255))
+    ∷ ("order 18446744073709551615", Some (Request.Order 18446744073709551615))
+    ∷ ("order 18446744073709551616", None)
+    ∷ ("poke 3 f_f", None)
+    ∷ ("setup 4096 1 0 0", None)
+    ∷ ("", None)
     ∷ []
 
-said : List (String × Command) → List (String × Command)
-said = map (λ x. (x.0, parsed (bytes x.0)))
+said : List (String × Option Request) → List (String × Option Request)
+said = map (λ x. (x.0, parsed (codes x.0)))
 
 names : said named ≡ named
-unfolding said named bytes request words_of number_of name_of says_at asked parsed
+unfolding said named words_of number_of field_of asked parsed
 names = refl
 
 cases : said odd ≡ odd
-unfolding said odd bytes request words_of number_of name_of says_at asked parsed
+unfolding said odd words_of number_of field_of asked parsed
 cases = refl

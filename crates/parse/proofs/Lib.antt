@@ -1,4 +1,4 @@
 mod Cases
-pub mod Asked
+pub mod Names
 pub mod Numbers
 pub mod Words

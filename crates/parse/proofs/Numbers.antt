@@ -1,30 +1,27 @@
--- What digits or letters say goes on from what the ones before them said, byte by byte; a number that is too big stays so.
-use Rattle.common.specs.Kit.{ℕ, ◌+◌, ◌*◌, ◌^◌, ◌≤◌, ◌<◌, ◌≡◌, sym, ◌∙◌, cond, ◌&&◌, and-false, List, [], ◌∷◌, leb, ltb, length, get_or, drop, drop-cons, add-one, arith, lt-ltb, le-ltb}
+-- A number that is too big stays so, whatever digits follow.
+use Rattle.common.specs.Kit.{ℕ, suc, ◌+◌, ◌*◌, ◌^◌, ◌≤◌, ◌<◌, ◌≡◌, refl, List, [], ◌∷◌, length, get_or, drop, drop-cons, arith, le-ltb}
 use native.Mathlib.Nat.{le-mul_of_pos_right}
-use Rattle.parse.specs.declared.input.Number.{Number}
-use Rattle.parse.specs.declared.input.Number.TheVariants.{Is, Bad}
-use Rattle.parse.specs.Line.{every, value_from, digit_of}
+use Rattle.std.specs.Prelude.{Option, Some, None, option_and_then}
+use Rattle.parse.specs.Line.{below, digit_of, value_from}
 
-grows : (base : ℕ) → 1 ≤ base → (n : ℕ) (w : List ℕ) → n ≤ value_from base digit_of n w
-grows base one n [] = omega arith
-grows base one n (b ∷ bs) = omega (arith, le-mul_of_pos_right n one, grows base one (n * base + digit_of b) bs)
+-- what the digits that are left say, after n
+abbrev pub number_from : ℕ → ℕ → List ℕ → Option ℕ
+number_from base n w = below (2 ^ 64) (value_from base n w)
 
--- the number that goes on from n
-unfoldable pub number_from : ℕ → ℕ → List ℕ → Number
-number_from base n w =
-    cond (every (λ b. ltb (digit_of b) base) w && ltb (value_from base digit_of n w) (2 ^ 64)) (Is (value_from base digit_of n w)) Bad
+after_any : (f : ℕ → Option ℕ) (o : Option ℕ) → ((d : ℕ) → below (2 ^ 64) (f d) ≡ None) → below (2 ^ 64) (option_and_then f o) ≡ None
+after_any f None big = refl
+after_any f (Some d) big = big d
 
--- r is what the word says; d is what the digit at i counts
-module _ {r : Number} (base n i : ℕ) (w : List ℕ) (left : r ≡ number_from base n (drop i w)) where
-  pub number-next : (d : ℕ) → i < length w → d ≡ digit_of (get_or w i 0) → d < base → r ≡ number_from base (n * base + d) (drop (i + 1) w)
-  unfolding number_from
-  number-next d h e k = left ∙ rw (e, add-one, drop-cons w i 0, lt-ltb (digit_of (get_or w i 0)) base (rw e at k))
+stays_big : (base : ℕ) → 1 ≤ base → (n : ℕ) (w : List ℕ) → 2 ^ 64 ≤ n → number_from base n w ≡ None
+stays_big base one n [] big = rw (le-ltb n (2 ^ 64) big)
+stays_big base one n (b ∷ bs) big =
+    after_any _ (digit_of base b) (λ d. stays_big base one (n * base + d) bs (omega (arith, le-mul_of_pos_right n one)))
 
-pub number-big : {r : Number} (base n : ℕ) (w : List ℕ) → r ≡ number_from base n w → 1 ≤ base → 2 ^ 64 ≤ n → Bad ≡ r
-unfolding number_from
-number-big base n w left one h =
-    sym (left ∙ rw (le-ltb (value_from base digit_of n w) (2 ^ 64) (omega (arith, grows base one n w)), and-false))
+-- with the next digit d, and with any
+module _ (base n i : ℕ) (w : List ℕ) (inside : i < length w) (one : 1 ≤ base) where
+  pub sum_big : (d : ℕ) → digit_of base (get_or w i 0) ≡ Some d → 2 ^ 64 ≤ n * base + d → number_from base n (drop i w) ≡ None
+  sum_big d e big = rw (drop-cons w i 0, e) (stays_big base one (n * base + d) (drop (suc i) w) big)
 
--- the name that goes on from n
-unfoldable pub name_from : ℕ → List ℕ → ℕ
-name_from n w = cond (every (λ b. leb 97 b) w) (value_from 256 (λ b. b) n w) 0
+  pub product_big : 2 ^ 64 ≤ n * base → number_from base n (drop i w) ≡ None
+  product_big big =
+      rw (drop-cons w i 0) (after_any _ (digit_of base (get_or w i 0)) (λ d. stays_big base one (n * base + d) (drop (suc i) w) (omega arith)))

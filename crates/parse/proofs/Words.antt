@@ -1,8 +1,19 @@
 -- Past the white space of a line there is either nothing more, or a run of other bytes that is the next word.
-use Rattle.common.specs.Kit.{ℕ, ◌-◌, ◌≤◌, ◌<◌, ◌≡◌, refl, ap, ◌∙◌, true, false, List, [], ◌∷◌, length, take, drop, length-drop, take_all, arith}
-use native.Mathlib.Nat.{sub-zero}
+use Rattle.common.specs.Kit.{ℕ, suc, Bool, cond, ◌-◌, ◌≤◌, ◌<◌, ◌≡◌, refl, ap, ◌∙◌, true, false, List, [], ◌∷◌, length, take, drop, length-drop, take_all, arith}
 use Rattle.common.proofs.Tests.{by-test}
-use Rattle.parse.specs.Line.{blank, run_of, before, words_of}
+use Rattle.std.specs.Bool.{beq}
+use Rattle.std.specs.List.{prefix_len}
+use Rattle.parse.specs.Line.{blank, before, words_of}
+
+-- how many bytes at the start are blank, or how many are not
+unfoldable run_of : Bool → List ℕ → ℕ
+run_of t [] = 0
+run_of t (b ∷ bs) = cond (beq (blank b) t) (suc (run_of t bs)) 0
+
+run_is : (t : Bool) (l : List ℕ) → prefix_len (λ b. beq (blank b) t) l ≡ run_of t l
+unfolding run_of
+run_is t [] = refl
+run_is t (b ∷ bs) = rw (run_is t bs) (ap (λ n. cond (beq (blank b) t) n 0) (omega arith))
 
 words-blank : (l : List ℕ) → length l ≤ run_of true l → words_of l ≡ []
 unfolding run_of words_of
@@ -30,20 +41,16 @@ words-begin (b ∷ bs) h =
     (λ e. let k : run_of true (b ∷ bs) ≡ 0 = rw e in rw k (word_first b bs e))
 
 -- the same of the code's slices: past the b blanks there is nothing, or else a word of n bytes
-abbrev pub from : ℕ → List ℕ → List ℕ
-from k l = take (length l - k) (drop k l)
+module _ (b : ℕ) (l : List ℕ) (skip : b ≡ prefix_len (λ c. beq (blank c) true) l) where
+  rest : take (length l - b) (drop b l) ≡ drop (run_of true l) l
+  rest = take_all (length l - b) (drop b l) (omega (arith, length-drop b l)) ∙ rw (skip, run_is true l)
 
-from-drop : (k : ℕ) (l : List ℕ) → from k l ≡ drop k l
-from-drop k l = take_all (length l - k) (drop k l) (omega (arith, length-drop k l))
+  pub words-none : length (take (length l - b) (drop b l)) ≡ 0 → words_of l ≡ []
+  words-none h = words-blank l (omega (arith, rw rest at h, length-drop (run_of true l) l))
 
-pub length_from : (k : ℕ) (l : List ℕ) → length (from k l) ≡ length l - k
-length_from k l = ap length (from-drop k l) ∙ length-drop k l
-
-module _ (b : ℕ) (l : List ℕ) (skip : b ≡ run_of true l) where
-  pub words-none : length (from b l) ≡ 0 → words_of l ≡ []
-  words-none h = words-blank l (omega (arith, length_from b l))
-
-  pub words-next : (n : ℕ) → (length (from b l) ≡ 0 → ⊥) → n ≡ run_of false (from b l)
-      → words_of l ≡ take (n - 0) (from b l) ∷ words_of (from n (from b l))
+  pub words-next : (n : ℕ) → (length (take (length l - b) (drop b l)) ≡ 0 → ⊥)
+      → n ≡ prefix_len (λ c. beq (blank c) false) (take (length l - b) (drop b l))
+      → words_of l ≡ take n (take (length l - b) (drop b l)) ∷ words_of (drop n (take (length l - b) (drop b l)))
   words-next n h e =
-      rw (sub-zero, from-drop n (from b l), e, from-drop b l, skip) (words-begin l (omega (arith, length_from b l)))
+      let is : n ≡ run_of false (drop (run_of true l) l) = e ∙ rw rest (run_is false (drop (run_of true l) l)) in
+      rw (rest, is) (words-begin l (omega (arith, rw rest at h, length-drop (run_of true l) l)))

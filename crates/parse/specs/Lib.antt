@@ -1,3 +1,2 @@
--- What a line of the shell's input says. Line is what a reader of the contracts needs first.
-pub mod Names
+-- What a line of the shell's input says.
 pub mod Line

@@ -1,101 +1,58 @@
-// A line of the input, taken apart into the names and numbers that its words say.
-ghost use Rattle.std.specs.Prelude.{◌≡◌, ◌≤◌, length};
-ghost use Rattle.parse.specs.Line.{blank, run_of, digit_of, number_of, name_of, says_at, none, parsed};
+// A line of the input, taken apart word by word.
+ghost use Rattle.std.specs.Prelude.{◌≡◌, ◌≤◌, ◌∷◌, [], length, MatchOption, option_copied};
+ghost use Rattle.std.specs.Bool.{beq};
+ghost use Rattle.std.specs.List.{prefix_len};
+ghost use Rattle.parse.specs.declared.request.Request.{Request};
+ghost use Rattle.parse.specs.Line.{blank, words_of, single, digit_of, hex, number, number_of, one, two, three, ends, numbers_to, setup_of, pokes, writes, field_of, asked, parsed};
 
-use crate::names;
+use crate::request::{Field, Request};
+use std::str;
+use words::place::VirtAddr;
 
 // The longest line, without its newline.
 pub const LONGEST: usize = 200;
 
-// What the `count` words of a line say, the name first. No words: no request.
-#[derive(Clone, Copy)]
-pub struct Command {
-    pub count: usize,
-    pub values: [u64; 4],
-}
-
-// What a word says.
-#[derive(Clone, Copy)]
-enum Number {
-    Is(u64),
-    Bad,
-}
-
-// Takes a line apart: at most four words, and none of them bad.
-#[tactic(auto, unfolding(crate::specs::Line::parsed))]
-pub fn parse(line: &[u8]) -> Command
+// What a line asks for, if it is a request.
+#[tactic(auto, unfolding(crate::specs::Line::parsed, crate::specs::Line::asked))]
+pub fn parse(line: &[u8]) -> Option<Request>
     ensures { result ≡ parsed line.now }
 {
     if LONGEST < line.len() {
-        return none();
+        return None;
     }
-    let mut values = [0u64; 4];
-    let mut count: usize = 0;
-    let mut rest = line;
-    while count < 4 {
-        let blanks = run(rest, true);
-        rest = &rest[blanks..];
-        if rest.len() == 0 {
-            return Command { count, values };
-        }
-        let n = run(rest, false);
-        let Number::Is(value) = word(values[0], count, &rest[0..n]) else {
-            return none();
-        };
-        values[count] = value;
-        count += 1;
-        rest = &rest[n..];
-    }
-    if run(rest, true) < rest.len() {
-        return none();
-    }
-    Command { count, values }
+    let (name, rest) = next_word(line)?;
+    request(name, rest)
 }
 
-fn none() -> Command
-    ensures { result ≡ none }
+// The first word of a text, and what stands after it.
+pub fn next_word(text: &[u8]) -> Option<(&[u8], &[u8])>
+    ensures { MatchOption result (words_of text.now ≡ []) (λ p. words_of text.now ≡ p.0.now ∷ words_of p.1.now) }
 {
-    Command {
-        count: 0,
-        values: [0; 4],
+    let text = &text[run(text, true)..];
+    if text.is_empty() {
+        return None;
     }
+    Some(text.split_at(run(text, false)))
 }
 
-// What the word number `i` of a request says: a name, hex digits where the request has these, else a number.
-#[tactic(auto, unfolding(crate::specs::Line::says_at))]
-fn word(request: u64, i: usize, word: &[u8]) -> Number
-    ensures { result ≡ says_at request i word.now }
+// The word of a text that has no other.
+pub fn only_word(text: &[u8]) -> Option<&[u8]>
+    ensures { option_copied result ≡ single (words_of text.now) }
 {
-    if i == 0 {
-        return Number::Is(name(word));
-    }
-    match request {
-        names::DECODE => hex(word),
-        names::POKE => { if i == 1 { decimal(word) } else { hex(word) } }
-        names::FIELD => {
-            if i == 1 {
-                Number::Is(name(word))
-            } else {
-                decimal(word)
-            }
-        }
-        _ => decimal(word),
+    let (word, rest) = next_word(text)?;
+    if next_word(rest).is_none() {
+        Some(word)
+    } else {
+        None
     }
 }
 
 // How many bytes at the start are white space, or how many are not.
-#[tactic(auto, unfolding(crate::specs::Line::run_of))]
 fn run(text: &[u8], blanks: bool) -> usize
-    ensures { (result ≤ length text.now) × (result ≡ run_of blanks text.now) }
+    ensures within { result ≤ length text.now }
+    ensures count { result ≡ prefix_len (λ b. beq (blank b) blanks) text.now }
 {
-    let mut i: usize = 0;
-    while i < text.len() {
-        if is_blank(text[i]) != blanks {
-            return i;
-        }
-        i += 1;
-    }
-    i
+    text.iter().take_while(|b| is_blank(**b) == blanks).count()
 }
 
 // Space, tab, vertical tab, form feed, carriage return; a newline is in no line.
@@ -108,76 +65,157 @@ fn is_blank(b: u8) -> bool
     }
 }
 
-// A word as names.rt writes names; 0 for one that is none of them.
-#[tactic(auto, unfolding(crate::specs::Line::name_of, crate::proofs::Numbers::name_from))]
-fn name(word: &[u8]) -> u64
-    ensures { result ≡ name_of word.now }
+// The request of a name and the words after it.
+#[tactic(auto, unfolding(crate::specs::Line::asked), using(crate::proofs::Names::not_request))]
+fn request(name: &[u8], rest: &[u8]) -> Option<Request>
+    ensures { result ≡ asked (name.now ∷ words_of rest.now) }
 {
-    if 7 < word.len() {
-        return 0;
+    match str::from_utf8(name).ok()? {
+        "words" => Some(Request::Words(one(rest)? as usize)),
+        "setup" => setup(rest),
+        "alloc" => Some(Request::Alloc(one(rest)? as usize)),
+        "file" => alone(rest, Request::File),
+        "slab" => Some(Request::Slab(one(rest)?)),
+        "free" => Some(Request::Free(VirtAddr(one(rest)?))),
+        "get" => Some(Request::Get(VirtAddr(one(rest)?))),
+        "put" => Some(Request::Put(VirtAddr(one(rest)?))),
+        "lookup" => Some(Request::Lookup(VirtAddr(one(rest)?))),
+        "report" => alone(rest, Request::Report),
+        "audit" => alone(rest, Request::Audit),
+        "print" => alone(rest, Request::Print),
+        "lists" => alone(rest, Request::Lists),
+        "state" => alone(rest, Request::State),
+        "word" => Some(Request::Word(one(rest)? as usize)),
+        "poke" => poke(rest),
+        "field" => field(rest),
+        "encode" => encode(rest),
+        "decode" => Some(Request::Decode(hex(only_word(rest)?)?)),
+        "order" => Some(Request::Order(one(rest)? as usize)),
+        "help" => alone(rest, Request::Help),
+        _ => None,
     }
-    let mut n: u64 = 0;
-    let mut i: usize = 0;
-    while i < word.len() {
-        let b = word[i];
-        if b < b'a' {
-            return 0;
-        }
-        n = n * 256 + b as u64;
-        i += 1;
+}
+
+// A request with no words after its name.
+fn alone(text: &[u8], request: Request) -> Option<Request>
+    ensures { result ≡ ends request (words_of text.now) }
+{
+    if next_word(text).is_none() {
+        Some(request)
+    } else {
+        None
     }
-    n
+}
+
+fn setup(text: &[u8]) -> Option<Request>
+    ensures { result ≡ setup_of (words_of text.now) }
+{
+    let (start, pages, boot) = three(text)?;
+    Some(Request::Setup {
+        start: VirtAddr(start),
+        pages: pages as usize,
+        boot: boot as usize,
+    })
+}
+
+fn poke(text: &[u8]) -> Option<Request>
+    ensures { result ≡ pokes (words_of text.now) }
+{
+    let (i, rest) = next_word(text)?;
+    Some(Request::Poke(decimal(i)? as usize, hex(only_word(rest)?)?))
+}
+
+fn field(text: &[u8]) -> Option<Request>
+    ensures { result ≡ writes (words_of text.now) }
+{
+    let (name, rest) = next_word(text)?;
+    let field = field_named(name)?;
+    let (i, value) = two(rest)?;
+    Some(Request::Field(field, i as usize, value))
+}
+
+#[tactic(auto, unfolding(crate::specs::Line::field_of), using(crate::proofs::Names::not_field))]
+fn field_named(name: &[u8]) -> Option<Field>
+    ensures { result ≡ field_of name.now }
+{
+    match str::from_utf8(name).ok()? {
+        "nr" => Some(Field::Nr),
+        "free" => Some(Field::Free),
+        "head" => Some(Field::Head),
+        "start" => Some(Field::Start),
+        "pages" => Some(Field::Pages),
+        "boot" => Some(Field::Boot),
+        _ => None,
+    }
+}
+
+fn encode(text: &[u8]) -> Option<Request>
+    ensures { result ≡ numbers_to Request.Encode (words_of text.now) }
+{
+    let (kind, a, b) = three(text)?;
+    Some(Request::Encode(kind, a, b))
+}
+
+// A number, and no word more.
+fn one(text: &[u8]) -> Option<u64>
+    ensures { result ≡ one (words_of text.now) }
+{
+    decimal(only_word(text)?)
+}
+
+fn two(text: &[u8]) -> Option<(u64, u64)>
+    ensures { result ≡ two (words_of text.now) }
+{
+    let (word, rest) = next_word(text)?;
+    Some((decimal(word)?, one(rest)?))
+}
+
+fn three(text: &[u8]) -> Option<(u64, u64, u64)>
+    ensures { result ≡ three (words_of text.now) }
+{
+    let (word, rest) = next_word(text)?;
+    let x = decimal(word)?;
+    let (y, z) = two(rest)?;
+    Some((x, y, z))
 }
 
 // 1 to 20 decimal digits.
-fn decimal(word: &[u8]) -> Number
-    ensures { result ≡ number_of 10 20 word.now }
+fn decimal(word: &[u8]) -> Option<u64>
+    ensures { result ≡ number word.now }
 {
     digits(word, 10, 20)
 }
 
 // 1 to 16 lower-case hexadecimal digits.
-fn hex(word: &[u8]) -> Number
-    ensures { result ≡ number_of 16 16 word.now }
+fn hex(word: &[u8]) -> Option<u64>
+    ensures { result ≡ hex word.now }
 {
     digits(word, 16, 16)
 }
 
 // 1 to `longest` digits, if what they say fits.
-#[tactic(auto, unfolding(crate::specs::Line::number_of, crate::proofs::Numbers::number_from))]
-fn digits(word: &[u8], base: u64, longest: usize) -> Number
+#[tactic(auto, unfolding(crate::specs::Line::number_of), using(crate::proofs::Numbers::sum_big, crate::proofs::Numbers::product_big))]
+fn digits(word: &[u8], base: u64, longest: usize) -> Option<u64>
     requires { 1 ≤ base }
     ensures { result ≡ number_of base longest word.now }
 {
-    if word.len() == 0 {
-        return Number::Bad;
-    }
-    if longest < word.len() {
-        return Number::Bad;
+    if word.is_empty() || longest < word.len() {
+        return None;
     }
     let mut n: u64 = 0;
-    let mut i: usize = 0;
-    while i < word.len() {
-        let d = digit(word[i]);
-        if base <= d {
-            return Number::Bad;
-        }
-        if (u64::MAX - d) / base < n {
-            return Number::Bad;
-        }
-        n = n * base + d;
-        i += 1;
+    for b in word {
+        n = n.checked_mul(base)?.checked_add(digit(*b, base)?)?;
     }
-    Number::Is(n)
+    Some(n)
 }
 
-// What a digit counts; 16 for a byte that is none.
-fn digit(b: u8) -> u64
-    ensures { result ≡ digit_of b }
+fn digit(b: u8, base: u64) -> Option<u64>
+    ensures { result ≡ digit_of base b }
 {
-    match b {
+    let d = match b {
         b'0'..=b'9' => (b - b'0') as u64,
         b'a'..=b'f' => (b - b'a') as u64 + 10,
-        _ => 16,
-    }
+        _ => return None,
+    };
+    if d < base { Some(d) } else { None }
 }

@@ -9,11 +9,11 @@ use words::place::VirtAddr;
 fn main(rt: HostRuntime) {
     let mut buf = [15u64; 4096];
     let words = &mut buf[0..64];
-    let done = root_mem_init(VirtAddr(1048576), 64, 3, words);
-    let region = done.region;
-    let report = memory_info(region, words);
-    let total = report.total_pages;
-    let free = report.free_pages;
-    let memory = Memory { total, free };
-    let _ = print!(rt; "{memory}");
+    let made = root_mem_init(VirtAddr(1048576), 64, 3, words);
+    if let Ok(report) = memory_info(made.region, words) {
+        let total = report.total_pages;
+        let free = report.free_pages;
+        let memory = Memory { total, free };
+        let _ = print!(rt; "{memory}");
+    }
 }

@@ -23,7 +23,7 @@ lends r n ws = let k = min n (length ws) in held r k (replicate k 15 ++ drop k w
 abbrev pub settled : HeapMemoryRegion → ℕ → List ℕ → Reply → Held
 settled r n ws (Line l) = held r n ws
 settled r n ws (Lent k) = lends r k ws
-settled r n ws (Text name) = held r n ws
+settled r n ws (Text kind) = held r n ws
 
 -- what a line leaves. A shell that lends more than its buffer has does nothing
 unfoldable pub answered : HeapMemoryRegion → ℕ → List ℕ → List ℕ → Held

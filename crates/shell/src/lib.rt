@@ -8,7 +8,7 @@ ghost use Rattle.heap.specs.Promise.{empty_region};
 ghost use Rattle.shell.specs.Shell.{held, settled, answered};
 
 use crate::requests::act;
-use crate::steps::{Reply, Step};
+use crate::steps::Reply;
 use answers::texts::write_text;
 use heap::start::empty_region;
 use parse::input::parse;
@@ -57,9 +57,9 @@ impl<'a> Shell<'a> {
         if self.buffer.len() < self.lent {
             return Ok(());
         }
-        let Step { region, reply } = act(self.region, &mut self.buffer[..self.lent], parse(line));
-        self.region = region;
-        self.settle(reply, out)
+        let done = act(self.region, &mut self.buffer[..self.lent], parse(line));
+        self.region = done.region;
+        self.settle(done.answer, out)
     }
 
     // Writes the reply, and lends other words if it says so.
@@ -75,7 +75,7 @@ impl<'a> Shell<'a> {
                 let ok = Line::new(Word::Ok, &[]);
                 writeln!(out, "{ok}")
             }
-            Reply::Text(request) => write_text(out, request, self.region, self.words()),
+            Reply::Text(kind) => write_text(out, kind, self.region, self.words()),
         }
     }
 

@@ -1,121 +1,84 @@
 // What each request does.
 ghost use Rattle.std.specs.Prelude.{◌≡◌, List, ℕ};
 ghost use Rattle.region.specs.declared.HeapMemoryRegion.{HeapMemoryRegion};
-ghost use Rattle.parse.specs.Names as Name;
-ghost use Rattle.shell.specs.Request.{did, says, alone, reads, with_number, with_two, with_three, acted};
+ghost use Rattle.shell.specs.Request.{did, says, lends, read, poked, acted};
 
 use crate::MOST_WORDS;
-use crate::record::field;
-use crate::steps::{Reply, Step, said, told};
-use answers::lines::{bad, number, of_answer, of_decoded, of_encoded};
+use crate::record::write_field;
+use crate::steps::{Reply, said, told};
+use answers::lines::{bad, number, of_decoded, of_encoded};
+use answers::texts::TextKind;
 use heap::reads::{audit, layout_from_ptr};
 use heap::requests::{
     allocate_file_page, allocate_pages, allocate_slab_page, free_page, get_file_page, put_file_page,
 };
 use heap::start::{empty_region, root_mem_init};
 use heap::word;
-use parse::input::Command;
-use parse::names;
-use region::HeapMemoryRegion;
-use sound_calls::{Counted, Finished, Granted, of_count, of_done, of_grant, of_layout};
+use parse::request::Request;
+use region::{After, HeapMemoryRegion};
 use text::answer::{Line, Word};
-use words::place::VirtAddr;
 
-// Does what a request asks for. It is known by its name and the count of its words.
+// Does what a request asks for; without one, nothing.
 #[tactic(auto, unfolding(crate::specs::Request::acted))]
-pub fn act(region: HeapMemoryRegion, words: &mut [u64], request: Command) -> Step
-    ensures { did result.region words.new result.reply ≡ acted region words.old request }
+pub fn act(region: HeapMemoryRegion, words: &mut [u64], request: Option<Request>) -> After<Reply>
+    ensures { did result.region words.new result.answer ≡ acted region words.old request }
 {
-    let Command { count, values } = request;
-    let name = values[0];
-    match count {
-        1 => plain(region, words, name),
-        2 => with_number(region, words, name, values[1]),
-        3 => said(region, with_two(words, name, values[1], values[2])),
-        4 => with_three(region, words, name, values[1], values[2], values[3]),
-        _ => said(region, bad()),
+    let Some(request) = request else {
+        return said(region, bad());
+    };
+    match request {
+        Request::Words(n) => lend(region, n),
+        Request::Setup { start, pages, boot } => {
+            told(root_mem_init(start, pages, boot, words))
+        }
+        Request::Alloc(order) => told(allocate_pages(region, words, order)),
+        Request::File => told(allocate_file_page(region, words)),
+        Request::Slab(size) => told(allocate_slab_page(region, words, size)),
+        Request::Free(at) => told(free_page(region, words, at)),
+        Request::Get(at) => told(After { region, answer: get_file_page(region, words, at) }),
+        Request::Put(at) => told(put_file_page(region, words, at)),
+        Request::Lookup(at) => told(After { region, answer: layout_from_ptr(region, words, at) }),
+        Request::Report => asked(region, TextKind::Report),
+        Request::Audit => told(After { region, answer: audit(region, words) }),
+        Request::Print => asked(region, TextKind::Print),
+        Request::Lists => asked(region, TextKind::Lists),
+        Request::State => asked(region, TextKind::State),
+        Request::Word(i) => said(region, word_at(words, i)),
+        Request::Poke(i, w) => said(region, poke(words, i, w)),
+        Request::Field(field, i, value) => write_field(region, field, i, value),
+        Request::Encode(kind, a, b) => said(region, of_encoded(word::encode_fields(kind, a, b))),
+        Request::Decode(w) => said(region, of_decoded(word::decode(w))),
+        Request::Order(size) => said(region, number(word::get_order(size) as u64)),
+        Request::Help => asked(region, TextKind::Help),
     }
 }
 
-// A name alone.
-#[tactic(auto, unfolding(crate::specs::Request::alone))]
-fn plain(region: HeapMemoryRegion, words: &mut [u64], name: u64) -> Step
-    ensures { did result.region words.new result.reply ≡ alone region words.old name }
+// A text that is made of the record and the words.
+fn asked(region: HeapMemoryRegion, kind: TextKind) -> After<Reply>
+    ensures { result ≡ record { region = region; answer = Reply.Text kind } }
 {
-    match name {
-        names::FILE => {
-            let Granted { region, answer } = allocate_file_page(region, words);
-            told(region, of_grant(answer))
-        }
-        names::AUDIT => told(region, of_done(audit(region, words))),
-        names::REPORT | names::PRINT | names::LISTS | names::STATE | names::HELP => Step {
-            region,
-            reply: Reply::Text(name),
-        },
-        _ => said(region, bad()),
-    }
-}
-
-// A name and a number.
-#[tactic(auto, unfolding(crate::specs::Request::with_number))]
-fn with_number(region: HeapMemoryRegion, words: &mut [u64], name: u64, n: u64) -> Step
-    ensures { did result.region words.new result.reply ≡ with_number region words.old name n }
-{
-    match name {
-        names::ALLOC => {
-            let Granted { region, answer } = allocate_pages(region, words, n as usize);
-            told(region, of_grant(answer))
-        }
-        names::SLAB => {
-            let Granted { region, answer } = allocate_slab_page(region, words, n);
-            told(region, of_grant(answer))
-        }
-        names::FREE => {
-            let Finished { region, answer } = free_page(region, words, VirtAddr(n));
-            told(region, of_done(answer))
-        }
-        names::GET => told(region, of_count(get_file_page(region, words, VirtAddr(n)))),
-        names::PUT => {
-            let Counted { region, answer } = put_file_page(region, words, VirtAddr(n));
-            told(region, of_count(answer))
-        }
-        names::WORDS => lend(region, n as usize),
-        _ => said(region, read_with(region, words, name, n)),
-    }
-}
-
-// A name and a number, where nothing changes.
-#[tactic(auto, unfolding(crate::specs::Request::reads))]
-fn read_with(region: HeapMemoryRegion, words: &[u64], name: u64, n: u64) -> Line
-    ensures { result ≡ reads region words.now name n }
-{
-    match name {
-        names::LOOKUP => of_answer(of_layout(layout_from_ptr(region, words, VirtAddr(n)))),
-        names::WORD => word_at(words, n as usize),
-        names::DECODE => of_decoded(word::decode(n)),
-        names::ORDER => number(word::get_order(n as usize) as u64),
-        _ => bad(),
+    After {
+        region,
+        answer: Reply::Text(kind),
     }
 }
 
 // So many words, all Reserved, and the empty record.
-#[tactic(auto, unfolding(crate::specs::Request::with_number))]
-fn lend(region: HeapMemoryRegion, n: usize) -> Step
-    ensures { (ws : List ℕ) → did result.region ws result.reply ≡ with_number region ws Name.words n }
+fn lend(region: HeapMemoryRegion, n: usize) -> After<Reply>
+    ensures { (ws : List ℕ) → did result.region ws result.answer ≡ lends region ws n }
 {
     if n <= MOST_WORDS {
-        Step {
+        After {
             region: empty_region(),
-            reply: Reply::Lent(n),
+            answer: Reply::Lent(n),
         }
     } else {
         said(region, bad())
     }
 }
 
-#[tactic(auto, unfolding(crate::specs::Request::reads))]
 fn word_at(words: &[u64], i: usize) -> Line
-    ensures { (r : HeapMemoryRegion) → result ≡ reads r words.now Name.word i }
+    ensures { result ≡ read words.now i }
 {
     if i < words.len() {
         Line::new(Word::Hex(words[i]), &[])
@@ -124,53 +87,13 @@ fn word_at(words: &[u64], i: usize) -> Line
     }
 }
 
-// A name and two numbers.
-#[tactic(auto, unfolding(crate::specs::Request::with_two))]
-fn with_two(words: &mut [u64], name: u64, x: u64, y: u64) -> Line
-    ensures { (r : HeapMemoryRegion) → says r words.new result ≡ with_two r words.old name x y }
-{
-    match name {
-        names::POKE => poke(words, x as usize, y),
-        _ => bad(),
-    }
-}
-
-#[tactic(auto, unfolding(crate::specs::Request::with_two))]
 fn poke(words: &mut [u64], i: usize, w: u64) -> Line
-    ensures { (r : HeapMemoryRegion) → says r words.new result ≡ with_two r words.old Name.poke i w }
+    ensures { (r : HeapMemoryRegion) → says r words.new result ≡ poked r words.old i w }
 {
     if i < words.len() {
         words[i] = w;
         Line::new(Word::Ok, &[])
     } else {
         Line::new(Word::Out, &[])
-    }
-}
-
-// A name and three numbers; `field` has a name for the first.
-#[tactic(auto, unfolding(crate::specs::Request::with_three))]
-fn with_three(
-    region: HeapMemoryRegion,
-    words: &mut [u64],
-    name: u64,
-    x: u64,
-    y: u64,
-    z: u64,
-) -> Step
-    ensures { did result.region words.new result.reply ≡ with_three region words.old name x y z }
-{
-    match name {
-        names::SETUP => {
-            let Finished { region, answer } = root_mem_init(
-                VirtAddr(x),
-                y as usize,
-                z as usize,
-                words,
-            );
-            told(region, of_done(answer))
-        }
-        names::FIELD => field(region, x, y as usize, z),
-        names::ENCODE => said(region, of_encoded(word::encode_fields(x, y, z))),
-        _ => said(region, bad()),
     }
 }

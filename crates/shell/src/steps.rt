@@ -1,11 +1,13 @@
 // What a request comes to: the record after it, and the reply.
 ghost use Rattle.std.specs.Prelude.{◌≡◌};
+ghost use Rattle.sound_calls.specs.Answer.{told};
 ghost use Rattle.answers.specs.Lines.{line_of};
 ghost use Rattle.shell.specs.Request.{step};
 
 use answers::lines::of_answer;
-use region::HeapMemoryRegion;
-use sound_calls::Answer;
+use answers::texts::TextKind;
+use region::{After, HeapMemoryRegion};
+use sound_calls::{AllocError, Answer, Carried};
 use text::answer::Line;
 
 // What the shell replies to a request. (An `Answer` is the heap's, to a call.)
@@ -14,28 +16,22 @@ pub enum Reply {
     Line(Line),
     // So many words are lent from now on.
     Lent(usize),
-    // What the request of this name asks for, made of the record and the words.
-    Text(u64),
+    // A text that is made of the record and the words.
+    Text(TextKind),
 }
 
-#[derive(Clone, Copy)]
-pub struct Step {
-    pub region: HeapMemoryRegion,
-    pub reply: Reply,
-}
-
-pub fn said(region: HeapMemoryRegion, line: Line) -> Step
+pub fn said(region: HeapMemoryRegion, line: Line) -> After<Reply>
     ensures { result ≡ step region line }
 {
-    Step {
+    After {
         region,
-        reply: Reply::Line(line),
+        answer: Reply::Line(line),
     }
 }
 
-// An answer of the heap, as a line.
-pub fn told(region: HeapMemoryRegion, answer: Answer) -> Step
-    ensures { result ≡ step region (line_of answer) }
+// What a call of the heap left, and its answer as a line.
+pub fn told<T: Carried>(left: After<Result<T, AllocError>>) -> After<Reply>
+    ensures { result ≡ step left.region (line_of (told T.values left.answer)) }
 {
-    said(region, of_answer(answer))
+    said(left.region, of_answer(Answer::from(left.answer)))
 }

@@ -27,8 +27,8 @@ pub enum Value {
 
 #[derive(Clone, Copy, PartialEq, Eq, Debug)]
 pub struct Line {
-    word: Word,
-    values: [Option<Value>; 3],
+    pub word: Word,
+    pub values: [Option<Value>; 3],
 }
 
 impl Line {
