@@ -1,5 +1,5 @@
 -- `sound_b` decides `Sound`: each line's test decides its field, and may rest on the lines before it. This is a result.
-use Rattle.common.specs.Kit.{ℕ, ◌+◌, ◌-◌, ◌*◌, ◌%◌, ◌^◌, refl, List, length, get_or}
+use Rattle.common.specs.Kit.{ℕ, ◌+◌, ◌-◌, ◌*◌, ◌%◌, ◌^◌, ◌≡◌, refl, true, List, length, get_or}
 use Rattle.pages.specs.Info.{allocated_info, reserved_info}
 use Rattle.region.specs.Layout.{end_of, max_pages, managed}
 use Rattle.region.specs.Pages.{blocks, frees}
@@ -28,6 +28,9 @@ module _ (r : HeapMemoryRegion) (ws : List ℕ) where
       (λ _. decide-and (decide_eq (r.start_virt.0 % 4096) 0)
       (λ _. decide-and (decide-le (r.start_virt.0 + 4096 * r.page_count) (2 ^ 64 - 1))
       (λ _. decide-and (decide-le r.allocated (end_of r)) (λ _. decide_true)))))))
+
+  pub in_limits : every (keeps r ws) numbers ≡ true → InLimits r ws
+  in_limits = decide-limits.yes
 
   pub sound-decides : Decides (sound_b r ws) (Sound r ws)
   unfolding sound_b keeps

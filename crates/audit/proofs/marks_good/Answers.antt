@@ -1,22 +1,16 @@
--- The tests are those of the two lines.
+-- The pages are few.
 use Rattle.common.specs.Kit.{sym, ◌∙◌, and-true}
 use Rattle.audit.specs.Check.{keeps}
 use Rattle.audit.proofs.Limit.{limits-few}
 use Rattle.audit.proofs.marks_good.Goals as goal
 
-pub alloc_pages-end-requires : goal.alloc_pages-end-requires
-alloc_pages-end-requires c = limits-few c.requires
+pub alloc_pages-requires : goal.alloc_pages-requires
+alloc_pages-requires c = limits-few c.requires
 
-pub returns-then-not-all_say : goal.returns-then-not-all_say
+pub returns-then-all_say : goal.returns-then-all_say
 unfolding keeps
-returns-then-not-all_say c = rw (sym c.all_say.ensures ∙ c.if-not-all_say.true)
+returns-then-all_say c = rw (← c.alloc_pages.ensures, ← c.all_say.ensures, c.if-all_say.true, and-true) c.all_say-then-all_say.ensures
 
-pub returns : goal.returns
+pub returns-else-all_say : goal.returns-else-all_say
 unfolding keeps
-returns c =
-    rw (
-      ← c.alloc_pages-end.ensures,
-      sym c.all_say.ensures ∙ c.if-not-all_say.false,
-      ← c.all_say-2.ensures,
-      and-true,
-    )
+returns-else-all_say c = rw (← c.all_say.ensures, c.if-all_say.false)
