@@ -36,9 +36,11 @@ impl Findings {
 fn is_upper_half(before: Option<usize>, free: Option<usize>, pfn: usize) -> bool
     ensures { result ≡ upper_half (unwrap_or before no_order) (unwrap_or free no_order) pfn }
 {
-    match before {
-        Some(order) => free == before && order < MAX_ORDER - 1 && pfn % size(order + 1) != 0,
-        None => false,
+    match (before, free) {
+        (Some(lower), Some(upper)) => {
+            lower == upper && lower < MAX_ORDER - 1 && pfn % size(lower + 1) != 0
+        }
+        _ => false,
     }
 }
 
