@@ -27,8 +27,8 @@ module _ (r : HeapMemoryRegion) (ws : List ℕ) {e : ℕ} (is : e ≡ end_of r) 
   unfolding keeps
   answer-first s = rw (← is, s.answer) (sym (and_assoc (tiles ws M e e 0) (lonely ws M e) others))
 
-  pub found_bad : Surveyed ws M e r.next_page None → every (keeps r ws) inner ≡ false
-  found_bad s = answer-first s
+  pub found-bad : Surveyed ws M e r.next_page None → every (keeps r ws) inner ≡ false
+  found-bad s = answer-first s
 
   module _ {f : Findings} (s : Surveyed ws M e r.next_page (Some f)) where
     -- each list has its free blocks, and no more, exactly if it has come to none
@@ -42,11 +42,11 @@ module _ (r : HeapMemoryRegion) (ws : List ℕ) {e : ℕ} (is : e ≡ end_of r) 
     none = record { long = refl; each = λ o h. get_or-replicate 6 o no_page 0 h }
 
     -- the tests of the code
-    pub found_good :
+    pub found-good :
         length r.nr_pages ≡ 6 → length r.free_pages ≡ 6 → length f.at ≡ 6 →
         every (keeps r ws) inner
         ≡ pointwise eqb f.blocks r.nr_pages && (pointwise eqb f.frees r.free_pages && pointwise eqb f.at (replicate 6 no_page))
-    found_good n k a =
+    found-good n k a =
         let t = s.stocked.tallies in
         answer-first s
         ∙ rw (
@@ -57,3 +57,5 @@ module _ (r : HeapMemoryRegion) (ws : List ℕ) {e : ℕ} (is : e ≡ end_of r) 
           lists-ended,
         )
         (simp and-true)
+
+pub ruleset found = (found-bad, found-good)

@@ -1,5 +1,5 @@
 -- The tests of `Check` as loops go through them: b is the answer, and what is left has it too, until a test fails or nothing is left.
-use Rattle.common.specs.Kit.{ℕ, zero, suc, ◌+◌, ◌-◌, ◌≤◌, ◌<◌, ◌≡◌, refl, sym, ap, ◌∙◌, Bool, true, false, ◌&&◌, and-true, and_assoc, List, eqb, length, get_or, take, drop, length-drop, zero-add, ℕ_discrete, arith, eq-eqb, ne_eqb}
+use Rattle.common.specs.Kit.{ℕ, zero, suc, ◌+◌, ◌-◌, ◌≤◌, ◌<◌, ◌≡◌, refl, sym, ap, ◌∙◌, Bool, true, ◌&&◌, and-true, and_assoc, List, eqb, length, get_or, drop, length-drop, zero-add, ℕ_discrete, arith, eq-eqb, ne_eqb}
 use Rattle.std.specs.Prelude.{min, slice_range}
 use Rattle.std.proofs.lemmas.List.{length-take, get_or-take, get_or-drop}
 use lib.Bits.{bit_or, bit_xor, xor_self, or_add_and, xor_add_and, and_le_l, and_le_r}
@@ -13,9 +13,6 @@ module _ {b : Bool} (f : ℕ → Bool) (p e : ℕ) (left : b ≡ all f p (e - p)
 
   pub all-next : p < e → f p ≡ true → b ≡ all f (p + 1) (e - (p + 1))
   all-next h t = all-step h ∙ rw t
-
-  pub all-stops : p < e → f p ≡ false → false ≡ b
-  all-stops h t = sym (all-step h ∙ rw t)
 
   pub all-ends : e ≤ p → true ≡ b
   unfolding all

@@ -10,10 +10,10 @@ lists-last :
     ((b && (m && (t && true))) && (l && (u && (n && (f && true))))) ≡ ((b && (m && true)) && (t && (u && (n && (f && (l && true))))))
 lists-last b m t l u n f = simp (and-true, and_assoc) (ap (λ x. b && (m && (t && x))) (and_comm l (u && (n && f)) ∙ simp and_assoc))
 
-pub sound_order :
+pub sound-order :
     (r : HeapMemoryRegion) (ws : List ℕ) →
     sound_b r ws ≡ every (keeps r ws) numbers && (every (keeps r ws) edges && every (keeps r ws) inner)
 unfolding sound_b
-sound_order r ws =
+sound-order r ws =
     let k = keeps r ws in
     ap (λ x. every k numbers && x) (lists-last (k boot) (k metadata) (k tiled) (k lists) (k buddies) (k totals) (k free))

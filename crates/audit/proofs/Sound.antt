@@ -9,6 +9,7 @@ use Rattle.audit.specs.Decides.{Decides}
 use Rattle.audit.specs.Check.{keeps, numbers, every, sound_b}
 use Rattle.audit.specs.Counts.{InLimits}
 use Rattle.audit.proofs.Limit.{limits-bounded}
+use Rattle.audit.proofs.Order.{sound-order}
 use Rattle.audit.proofs.Decisions.{decide_true, decide_eq, decide-le, decide-as, decide-and, decide-orders}
 use Rattle.audit.proofs.Saying.{decide-say}
 use Rattle.audit.proofs.Tiling.{decide-tiles}
@@ -29,8 +30,8 @@ module _ (r : HeapMemoryRegion) (ws : List ℕ) where
       (λ _. decide-and (decide-le (r.start_virt.0 + 4096 * r.page_count) (2 ^ 64 - 1))
       (λ _. decide-and (decide-le r.allocated (end_of r)) (λ _. decide_true)))))))
 
-  pub in_limits : every (keeps r ws) numbers ≡ true → InLimits r ws
-  in_limits = decide-limits.yes
+  pub in-limits : every (keeps r ws) numbers ≡ true → InLimits r ws
+  in-limits = decide-limits.yes
 
   pub sound-decides : Decides (sound_b r ws) (Sound r ws)
   unfolding sound_b keeps
@@ -58,3 +59,6 @@ module _ (r : HeapMemoryRegion) (ws : List ℕ) where
       (λ _. decide-and (decide-buddies ws M (limits-bounded r ws l) m.1.1.0)
       (λ _. decide-and (decide-orders (λ o. decide_eq (get_or r.nr_pages o 0) (blocks ws M e o)))
       (λ _. decide-and (decide-orders (λ o. decide_eq (get_or r.free_pages o 0) (frees ws M e o))) (λ _. decide_true)))))))
+
+-- the groups of lines that the code takes, one after the other
+pub ruleset groups = (sound-order, in-limits)

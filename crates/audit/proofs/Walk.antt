@@ -1,7 +1,7 @@
 -- The walk from block to block: what it keeps at the end of each block. The pages of a block after its first head nothing, so they add to no
 -- count and are no half; of two free buddies the upper one is met right after the lower one; a list goes one page on with each of its free
 -- blocks.
-use Rattle.common.specs.Kit.{ℕ, zero, suc, ◌+◌, ◌-◌, ◌^◌, ◌≤◌, ◌<◌, ◌≡◌, refl, sym, ap, ◌∙◌, Bool, true, false, not, ◌&&◌, and-false, false≢true, List, length, get_or, replicate, length-set, get_or-replicate, get_or-set_same, get_or-set_other, pow_pos, le_refl, add-one, ℕ_discrete, dec_lt, arith, eq-eqb, ne_eqb, le-ltb, Option, Some, None}
+use Rattle.common.specs.Kit.{ℕ, zero, suc, ◌+◌, ◌-◌, ◌^◌, ◌≤◌, ◌<◌, ◌≡◌, refl, sym, ap, ◌∙◌, Bool, true, false, not, ◌&&◌, and-false, false≢true, List, length, get_or, replicate, length-set, get_or-replicate, get_or-set_same, get_or-set_other, pow_pos, le_refl, add-one, ℕ_discrete, dec_lt, arith, eq-eqb, ne_eqb, le-ltb, Some, None}
 use Rattle.common.proofs.Tests.{by-test, T_false}
 use Rattle.words.specs.Word.{no_page}
 use Rattle.pages.specs.Said.{said}

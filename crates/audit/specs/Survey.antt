@@ -1,5 +1,5 @@
 -- What the walk from block to block asks at each block, what it answers, and which lines that decides.
-use Rattle.std.specs.Prelude.{ℕ, ◌+◌, ◌%◌, ◌^◌, ◌<◌, ◌≡◌, Bool, true, cond, not, ◌&&◌, List, [], ◌∷◌, eqb, ltb, get_or, set, is_some, IfSome, Option}
+use Rattle.std.specs.Prelude.{ℕ, ◌+◌, ◌%◌, ◌^◌, ◌<◌, ◌≡◌, Bool, cond, not, ◌&&◌, List, [], ◌∷◌, eqb, ltb, get_or, set, is_some, IfSome, Option}
 use Rattle.words.specs.Word.{no_page}
 use Rattle.pages.specs.Said.{said, next_in}
 use Rattle.region.specs.State.{room}

@@ -21,21 +21,20 @@ pub mod survey;
 pub mod tiles;
 
 // Whether the numbers of the record are those of a region with these words.
-#[tactic(auto, using(crate::proofs::Limit::few_first, crate::proofs::Limit::number_tests))]
+#[tactic(auto, using(crate::proofs::Limit::tests))]
 fn numbers_good(region: HeapMemoryRegion, words: &[u64]) -> bool
     ensures { result ≡ every (keeps region words.now) numbers }
 {
     let start = region.start_virt.0;
     let pages = region.page_count;
-    if !pages_good(pages) {
+    if !pages_good(pages) || words.len() != pages || start % PAGE_SIZE != 0 {
         return false;
     }
-    let last_start = u64::MAX - PAGE_SIZE * pages as u64;
-    let end = alloc_pages(pages);
-    words.len() == pages && start % PAGE_SIZE == 0 && start <= last_start && region.allocated <= end
+    start <= u64::MAX - PAGE_SIZE * pages as u64 && region.allocated <= alloc_pages(pages)
 }
 
 // Whether boot and metadata pages are marked as such.
+#[tactic(auto, unfolding(crate::specs::Check::keeps))]
 fn marks_good(region: HeapMemoryRegion, words: &[u64]) -> bool
     requires { InLimits region words.now }
     ensures { result ≡ every (keeps region words.now) edges }
@@ -55,7 +54,7 @@ fn marks_good(region: HeapMemoryRegion, words: &[u64]) -> bool
 }
 
 // Whether blocks tile the managed pages, no two free ones are buddies, the counts are right and the lists hold the free blocks.
-#[tactic(auto, using(crate::proofs::Found::found_bad, crate::proofs::Found::found_good))]
+#[tactic(auto, using(crate::proofs::Found::found))]
 fn stocks_good(region: HeapMemoryRegion, words: &[u64]) -> bool
     requires { InLimits region words.now }
     ensures { result ≡ every (keeps region words.now) inner }
@@ -75,7 +74,7 @@ fn stocks_good(region: HeapMemoryRegion, words: &[u64]) -> bool
 }
 
 // Whether record and words are sound.
-#[tactic(auto, using(crate::proofs::Order::sound_order, crate::proofs::Sound::in_limits))]
+#[tactic(auto, using(crate::proofs::Sound::groups))]
 pub fn audit(region: HeapMemoryRegion, words: &[u64]) -> bool
     ensures { result ≡ sound_b region words.now }
 {

@@ -2,6 +2,7 @@
 ghost use Rattle.std.specs.Prelude.{◌≡◌, unwrap_or};
 ghost use Rattle.buddy.specs.Rules.{span};
 ghost use Rattle.pages.specs.Meaning.{no_order};
+ghost use Rattle.audit.specs.Counts.{Within};
 ghost use Rattle.audit.specs.Survey.{upper_half, NoteOk, noted, Surveyed};
 
 use crate::heads::{free_order, head_order};
@@ -46,6 +47,7 @@ fn is_upper_half(before: Option<usize>, free: Option<usize>, pfn: usize) -> bool
 
 // Walks from block to block; `heads` are those of the lists. None if blocks do not tile the pages, or two free ones are buddies.
 pub fn survey(pages: Managed, heads: [usize; 6]) -> Option<Findings>
+    requires { Within pages.words.now pages.from pages.end }
     ensures { Surveyed pages.entry.words.now (span pages.entry.from pages.entry.end) pages.entry.end heads result }
 {
     let mut found = Findings {

@@ -10,7 +10,6 @@ use Rattle.pages.specs.Meaning.{no_order, head_order, free_order}
 use Rattle.region.specs.State.{room}
 use Rattle.audit.specs.Check.{block_at}
 use Rattle.audit.specs.Counts.{Within}
-use Rattle.audit.specs.Survey.{NoteOk}
 use Rattle.audit.specs.declared.survey.Findings.{Findings}
 use Rattle.audit.proofs.Limit.{within-bounded}
 use Rattle.audit.proofs.Walk.{Walk, walk-to, walk_more, few, block, block-ends, no_block, no_head, a_half, walk_ends}
@@ -39,36 +38,36 @@ module _ {ws heads : List ℕ} {s : Findings} {a e b p o : ℕ} {d : Option Page
 
 pub loop-pfn-init : goal.loop-pfn-init
 loop-pfn-init c =
-    let k = c.args.pages.within in
+    let k = c.requires in
     (omega arith, walk-to _ (within-bounded k) _ (search rules) _ k.from (λ q l. span-out _ _ q (omega arith)))
 
 pub returns-in_err-order : goal.returns-in_err-order
 returns-in_err-order c =
     let i = c.loop-pfn.invariant in
     rw c.from_residual.ensures
-    (no_head _ (within-bounded c.args.pages.within) i.1 (span-in _ _ _ i.0 c.loop-pfn-test.true)
+    (no_head _ (within-bounded c.requires) i.1 (span-in _ _ _ i.0 (omega arith))
     (rw (← c.read_page_info-said.ensures) (sym c.in_err-order.ensures)))
 
 pub returns-then-not-block_at : goal.returns-then-not-block_at
 returns-then-not-block_at c =
-    let k = c.args.pages.within in
+    let k = c.requires in
     let i = c.loop-pfn.invariant in
-    no_block _ (within-bounded k) i.1 (span-in _ _ _ i.0 c.loop-pfn-test.true)
-    (here k i c.loop-pfn-test.true c.read_page_info-said.ensures c.in_ok-order.ensures c.if-not-block_at.ensures)
+    no_block _ (within-bounded k) i.1 (span-in _ _ _ i.0 (omega arith))
+    (here k i (omega arith) c.read_page_info-said.ensures c.in_ok-order.ensures c.if-not-block_at.ensures)
 
 pub returns-then-is_upper_half : goal.returns-then-is_upper_half
 returns-then-is_upper_half c =
     let i = c.loop-pfn.invariant in
-    a_half _ (within-bounded c.args.pages.within) i.1 (span-in _ _ _ i.0 c.loop-pfn-test.true)
+    a_half _ (within-bounded c.requires) i.1 (span-in _ _ _ i.0 (omega arith))
     (rw (← c.read_page_info-said.ensures, ← c.free_order-free.ensures.order) (sym c.if-is_upper_half.ensures))
 
 pub note-requires : goal.note-requires
 note-requires c =
-    let k = c.args.pages.within in
+    let k = c.requires in
     let i = c.loop-pfn.invariant in
     let free = c.free_order-free.ensures in
-    let counts = few _ (within-bounded k) i.1 (span-in _ _ _ i.0 c.loop-pfn-test.true) in
-    let small = (fits k i c.loop-pfn-test.true c.read_page_info-said.ensures c.in_ok-order.ensures c.if-not-block_at.ensures).0 in
+    let counts = few _ (within-bounded k) i.1 (span-in _ _ _ i.0 (omega arith)) in
+    let small = (fits k i (omega arith) c.read_page_info-said.ensures c.in_ok-order.ensures c.if-not-block_at.ensures).0 in
     record {
       small = small;
       few = omega (arith, (counts c.in_ok-order.order).0, k.few);
@@ -77,21 +76,21 @@ note-requires c =
 
 pub size-pfn-requires : goal.size-pfn-requires
 size-pfn-requires c =
-    (fits c.args.pages.within c.loop-pfn.invariant c.loop-pfn-test.true c.read_page_info-said.ensures c.in_ok-order.ensures c.if-not-block_at.ensures).0
+    (fits c.requires c.loop-pfn.invariant (omega arith) c.read_page_info-said.ensures c.in_ok-order.ensures c.if-not-block_at.ensures).0
 
 pub overflow_add-pfn : goal.overflow_add-pfn
 overflow_add-pfn c =
     omega (
       arith,
       c.size-pfn.ensures,
-      (fits c.args.pages.within c.loop-pfn.invariant c.loop-pfn-test.true c.read_page_info-said.ensures c.in_ok-order.ensures c.if-not-block_at.ensures).1,
+      (fits c.requires c.loop-pfn.invariant (omega arith) c.read_page_info-said.ensures c.in_ok-order.ensures c.if-not-block_at.ensures).1,
     )
 
 pub loop-pfn-preserved : goal.loop-pfn-preserved
 loop-pfn-preserved c =
-    let k = c.args.pages.within in
+    let k = c.requires in
     let i = c.loop-pfn.invariant in
-    let high = c.loop-pfn-test.true in
+    let high : c.loop-pfn.pfn < c.args.pages.end = omega arith in
     let read = c.read_page_info-said.ensures in
     let order = c.in_ok-order.ensures in
     let free = c.free_order-free.ensures.order in (
@@ -102,4 +101,4 @@ loop-pfn-preserved c =
     )
 
 pub returns : goal.returns
-returns c = walk_ends _ (within-bounded c.args.pages.within) c.loop-pfn.invariant.1 c.loop-pfn-test.false
+returns c = walk_ends _ (within-bounded c.requires) c.loop-pfn.invariant.1 (omega arith)

@@ -1,5 +1,4 @@
 -- No other word so far, and the words that are left, have the answer, at each step.
-use Rattle.common.specs.Kit.{sym}
 use Rattle.audit.specs.Check.{all_say}
 use Rattle.audit.proofs.Loops.{gather-first, gather-next, gather-ends}
 use Rattle.audit.proofs.tiles.all_say.Goals as goal
