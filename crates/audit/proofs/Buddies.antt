@@ -4,7 +4,6 @@ use Rattle.common.specs.Kit.{ℕ, zero, suc, ◌+◌, ◌-◌, ◌*◌, ◌/◌,
 use native.Mathlib.Nat.{mul-mod_left, mul-div_cancel}
 use mathlib.Core.Bool.{and_comm}
 use lib.Pow.{split, mod-pow-add}
-use lib.Seq.{set_out}
 use Rattle.pages.specs.Said.{said}
 use Rattle.pages.specs.Meaning.{free_order}
 use Rattle.region.specs.Pages.{Tiled, FreeBlock, buddy_of, NoBuddies}
@@ -54,15 +53,6 @@ buddy-upper o p h n = rw (ne_eqb (p % 2 ^ (o + 1)) 0 n) (at (p / 2 ^ o) (omega (
         let below : p - 2 ^ o ≡ k * 2 ^ o = omega (arith, q) in
         let low : (p - 2 ^ o) % 2 ^ o ≡ 0 = rw below (mul-mod_left k (2 ^ o)) in
         (eqb-true _ 0 (either-half o (p - 2 ^ o) low ∙ rw (on, ne_eqb (p % 2 ^ (o + 1)) 0 n)), on)
-
--- what is not free is no upper half
-pub used-half : (b o p : ℕ) → 6 ≤ o → upper_half b o p ≡ false
-unfolding upper_half
-used-half b o p h =
-    elim (ℕ_discrete o b) [ yes e ↦ simp (le-ltb b 5 (omega arith)) | no n ↦ simp (ne_eqb o b n, and-false) ]
-
--- and a note of it changes nothing: no list of six has such a place
-pub ruleset unnoted = (used-half, set_out)
 
 module _ (ws : List ℕ) (M : ℕ → Bool) where
   pub high_half : (o p : ℕ) → 5 ≤ o → lower_half ws M o p ≡ false

@@ -1,5 +1,7 @@
 -- The tests of `Check` as loops go through them: b is the answer, and what is left has it too, until a test fails or nothing is left.
-use Rattle.common.specs.Kit.{ℕ, zero, suc, ◌+◌, ◌-◌, ◌≤◌, ◌<◌, ◌≡◌, refl, sym, ap, ◌∙◌, Bool, true, false, ◌&&◌, and-true, and_assoc, eqb, ℕ_discrete, arith, eq-eqb, ne_eqb}
+use Rattle.common.specs.Kit.{ℕ, zero, suc, ◌+◌, ◌-◌, ◌≤◌, ◌<◌, ◌≡◌, refl, sym, ap, ◌∙◌, Bool, true, ◌&&◌, and-true, and_assoc, List, eqb, length, get_or, drop, length-drop, zero-add, ℕ_discrete, arith, eq-eqb, ne_eqb}
+use Rattle.std.specs.Prelude.{min, slice_range}
+use Rattle.std.proofs.lemmas.List.{length-take, get_or-take, get_or-drop}
 use lib.Bits.{bit_or, bit_xor, xor_self, or_add_and, xor_add_and, and_le_l, and_le_r}
 use Rattle.audit.specs.Check.{all}
 
@@ -11,9 +13,6 @@ module _ {b : Bool} (f : ℕ → Bool) (p e : ℕ) (left : b ≡ all f p (e - p)
 
   pub all-next : p < e → f p ≡ true → b ≡ all f (p + 1) (e - (p + 1))
   all-next h t = all-step h ∙ rw t
-
-  pub all-stops : p < e → f p ≡ false → false ≡ b
-  all-stops h t = sym (all-step h ∙ rw t)
 
   pub all-ends : e ≤ p → true ≡ b
   unfolding all
@@ -43,6 +42,20 @@ or-differing n x y =
         let z : d ≡ 0 = omega (arith, or_add_and n d, and_le_l n d, and_le_r n d) in
         (omega (arith, or_add_and n d, and_le_r n d), omega (arith, xor_add_and x y, and_le_l x y, and_le_r x y))
 
+-- two tests that agree, from a on and from b on
+all-shifted : (f g : ℕ → Bool) (a b n : ℕ) → ((i : ℕ) → i < n → f (a + i) ≡ g (b + i)) → all f a n ≡ all g b n
+unfolding all
+all-shifted f g a b zero h = refl
+all-shifted f g a b (suc n) h =
+    let first : f a ≡ g b = ap f (omega arith) ∙ h 0 (omega arith) ∙ ap g (omega arith) in
+    rw (
+      first,
+      all-shifted f g (a + 1) (b + 1) n (λ i k. ap f (omega arith) ∙ h (suc i) (omega arith) ∙ ap g (omega arith)),
+    )
+
+pub all_same : (f g : ℕ → Bool) (a n : ℕ) → ((p : ℕ) → p < a + n → f p ≡ g p) → all f a n ≡ all g a n
+all_same f g a n h = all-shifted f g a a n (λ i k. h (a + i) (omega arith))
+
 -- a loop that looks at every number, and gathers in n the bits in which g and y differ: n, and what is left, have the answer
 pub record Gathered (g : ℕ → ℕ) (y e p n : ℕ) (b : Bool) : Type 0 where
   pub left : b ≡ eqb n 0 && all (λ q. eqb (g q) y) p (e - p)
@@ -64,8 +77,17 @@ module _ {g : ℕ → ℕ} {y e p n : ℕ} {b : Bool} (c : Gathered g y e p n b)
   unfolding all
   gather-ends h = let k : e - p ≡ 0 = omega arith in sym (c.left ∙ rw k (and-true (eqb n 0)))
 
--- two tests that agree
-pub all_same : (f g : ℕ → Bool) (a n : ℕ) → ((p : ℕ) → p < a + n → f p ≡ g p) → all f a n ≡ all g a n
-unfolding all
-all_same f g a zero h = refl
-all_same f g a (suc n) h = rw (h a (omega arith), all_same f g (a + 1) n (λ p k. h p (omega arith)))
+-- at the first of the elements of xs from a up to e
+pub gather-first : (xs : List ℕ) (y a e : ℕ) → e ≤ length xs →
+    let run = slice_range xs (min a e) e in Gathered (λ i. get_or run i 0) y (length run) 0 0 (all (λ p. eqb (get_or xs p 0) y) a (e - a))
+gather-first xs y a e h =
+    let run = slice_range xs (min a e) e in
+    let long : length run ≡ e - a = simp (length-take, length-drop) (omega arith) in
+    record {
+      left =
+          all-shifted (λ p. eqb (get_or xs p 0) y) (λ i. eqb (get_or run i 0) y) a 0 (e - a)
+          (λ i k.
+          let low : min a e ≡ a = omega arith in
+          ap (λ w. eqb w y) (sym (rw (low, zero-add) (get_or-take (e - a) (drop a xs) i 0 k ∙ get_or-drop a xs i 0))))
+          ∙ ap (all (λ i. eqb (get_or run i 0) y) 0) (omega (arith, long));
+    }

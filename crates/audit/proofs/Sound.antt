@@ -1,5 +1,5 @@
 -- `sound_b` decides `Sound`: each line's test decides its field, and may rest on the lines before it. This is a result.
-use Rattle.common.specs.Kit.{ℕ, ◌+◌, ◌-◌, ◌*◌, ◌%◌, ◌^◌, refl, List, length, get_or}
+use Rattle.common.specs.Kit.{ℕ, ◌+◌, ◌-◌, ◌*◌, ◌%◌, ◌^◌, ◌≡◌, refl, true, List, length, get_or}
 use Rattle.pages.specs.Info.{allocated_info, reserved_info}
 use Rattle.region.specs.Layout.{end_of, max_pages, managed}
 use Rattle.region.specs.Pages.{blocks, frees}
@@ -9,6 +9,7 @@ use Rattle.audit.specs.Decides.{Decides}
 use Rattle.audit.specs.Check.{keeps, numbers, every, sound_b}
 use Rattle.audit.specs.Counts.{InLimits}
 use Rattle.audit.proofs.Limit.{limits-bounded}
+use Rattle.audit.proofs.Order.{sound-order}
 use Rattle.audit.proofs.Decisions.{decide_true, decide_eq, decide-le, decide-as, decide-and, decide-orders}
 use Rattle.audit.proofs.Saying.{decide-say}
 use Rattle.audit.proofs.Tiling.{decide-tiles}
@@ -28,6 +29,9 @@ module _ (r : HeapMemoryRegion) (ws : List ℕ) where
       (λ _. decide-and (decide_eq (r.start_virt.0 % 4096) 0)
       (λ _. decide-and (decide-le (r.start_virt.0 + 4096 * r.page_count) (2 ^ 64 - 1))
       (λ _. decide-and (decide-le r.allocated (end_of r)) (λ _. decide_true)))))))
+
+  pub in-limits : every (keeps r ws) numbers ≡ true → InLimits r ws
+  in-limits = decide-limits.yes
 
   pub sound-decides : Decides (sound_b r ws) (Sound r ws)
   unfolding sound_b keeps
@@ -55,3 +59,6 @@ module _ (r : HeapMemoryRegion) (ws : List ℕ) where
       (λ _. decide-and (decide-buddies ws M (limits-bounded r ws l) m.1.1.0)
       (λ _. decide-and (decide-orders (λ o. decide_eq (get_or r.nr_pages o 0) (blocks ws M e o)))
       (λ _. decide-and (decide-orders (λ o. decide_eq (get_or r.free_pages o 0) (frees ws M e o))) (λ _. decide_true)))))))
+
+-- the groups of lines that the code takes, one after the other
+pub ruleset groups = (sound-order, in-limits)

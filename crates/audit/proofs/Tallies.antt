@@ -1,11 +1,13 @@
 -- Tallies of pages by order: nothing at page 0, none more over a page that is not in M, one more over a block, and no count passes the pages.
-use Rattle.common.specs.Kit.{ℕ, ◌+◌, ◌≤◌, ◌<◌, ◌≡◌, refl, sym, ap, ◌∙◌, Bool, true, false, ◌&&◌, and-false, List, eqb, length, get_or, replicate, length-set, get_or-replicate, get_or-eq_default, get_or-set_same, get_or-set_other, ℕ_discrete, dec_lt, arith, eq-eqb, ne_eqb}
+use Rattle.common.specs.Kit.{ℕ, ◌+◌, ◌≤◌, ◌<◌, ◌≡◌, refl, sym, ap, ◌∙◌, Bool, true, false, ◌&&◌, and-false, List, eqb, length, get_or, replicate, length-set, get_or-replicate, get_or-eq_default, get_or-set_same, get_or-set_other, ext_get_or, ℕ_discrete, dec_lt, arith, eq-eqb, ne_eqb}
 use Rattle.common.specs.Numbers.{one, count}
 use Rattle.common.proofs.Counts.{count-run}
 use Rattle.common.proofs.Bounds.{count-le}
+use Rattle.audit.specs.Decides.{Decides}
 use Rattle.audit.specs.Check.{counts}
 use Rattle.audit.specs.Counts.{one_more, Tally}
-use Rattle.audit.proofs.Loops.{all_same}
+use Rattle.audit.proofs.Decisions.{decide-same, decide-as, decide_eq, decide-orders}
+use lib.Pointwise.{pointwise, bytes_decides}
 
 more-at : (l : List ℕ) (k o : ℕ) → o < length l → get_or (one_more l k) o 0 ≡ get_or l o 0 + one (eqb k o)
 more-at l k o h =
@@ -14,8 +16,19 @@ more-at l k o h =
       | no n ↦ rw (ne_eqb k o n) (get_or-set_other l k o _ 0 (λ e. n (sym e)) ∙ omega arith)
     ]
 
-pub tally-counts : {n : ℕ → ℕ} {l : List ℕ} (ns : List ℕ) → Tally n l → counts ns (λ o. get_or l o 0) ≡ counts ns n
-tally-counts ns t = all_same _ _ 0 6 (λ o h. ap (eqb (get_or ns o 0)) (t.each o h))
+-- two arrays are equal
+decide-equal : (xs ys : List ℕ) → Decides (pointwise eqb xs ys) (xs ≡ ys)
+decide-equal xs ys = let d = bytes_decides xs ys in record { yes = d.0; back = d.1 }
+
+pub equal-back : (xs ys : List ℕ) → pointwise eqb xs ys ≡ pointwise eqb ys xs
+equal-back xs ys = decide-same (decide-equal xs ys) (decide-as sym sym (decide-equal ys xs))
+
+-- a list that holds what n says is equal to one exactly if that holds it too
+pub tally-equal : {n : ℕ → ℕ} {l : List ℕ} (ns : List ℕ) → length ns ≡ 6 → Tally n l → pointwise eqb l ns ≡ counts ns n
+tally-equal {n} {l} ns h t =
+    decide-same (decide-equal l ns)
+    (decide-as (λ e. ext_get_or 0 l ns (t.long ∙ sym h) (λ o i. let k : o < 6 = omega (arith, t.long) in t.each o k ∙ sym (e o k)))
+    (λ e o k. ap (λ x. get_or x o 0) (sym e) ∙ t.each o k) (decide-orders (λ o. decide_eq (get_or ns o 0) (n o))))
 
 module _ (f : ℕ → ℕ) (M : ℕ → Bool) where
   -- how many of the pages of M below p have order o by f

@@ -1,6 +1,6 @@
 -- Tilings: a test that goes from block to block decides whether the pages of a set M are tiled, since in a tiling a page that heads an order
 -- starts a block.
-use Rattle.common.specs.Kit.{ℕ, zero, suc, ◌+◌, ◌-◌, ◌%◌, ◌^◌, ◌≤◌, ◌<◌, ◌≡◌, refl, ap, ◌∙◌, ◌≢◌, ◌↔◌, subst, Bool, true, false, cond, ◌&&◌, ◌||◌, List, T, leb, pow_pos, le_refl, ℕ_discrete, dec_lt, arith, lt-ltb, le-leb, lt-leb, Option, Some, None}
+use Rattle.common.specs.Kit.{ℕ, zero, suc, ◌+◌, ◌-◌, ◌%◌, ◌^◌, ◌≤◌, ◌<◌, ◌≡◌, refl, ap, ◌∙◌, ◌≢◌, ◌↔◌, subst, Bool, true, false, cond, ◌&&◌, ◌||◌, List, T, eqb, leb, pow_pos, le_refl, ℕ_discrete, dec_lt, arith, lt-ltb, le-leb, lt-leb, Option, Some, None}
 use Rattle.common.proofs.Tests.{by-test}
 use Rattle.words.specs.declared.word.PageInfo.TheVariants.{Free, Allocated, Slab, Compound, File, Reserved}
 use Rattle.buddy.specs.Rules.{span}
@@ -10,7 +10,7 @@ use Rattle.pages.specs.Said.{said}
 use Rattle.pages.specs.Meaning.{head_order, free_order}
 use Rattle.region.specs.Pages.{Block, InBlock, Tiled, FreeBlock}
 use Rattle.audit.specs.Decides.{Decides}
-use Rattle.audit.specs.Check.{all, block_at, tiles}
+use Rattle.audit.specs.Check.{all, all_say, block_at, tiles}
 use Rattle.audit.proofs.Limit.{Bounded}
 use Rattle.audit.proofs.Decisions.{decide-as, decide-same, decide_eq, decide-le, decide-lt, decide_T, decide-and, decide-all}
 use Rattle.audit.proofs.Saying.{decide-say}
@@ -131,7 +131,12 @@ all-span a e p n h k =
     (decide-as (λ l q x y. span-T a e q (omega arith) (omega arith))
     (λ t. let x = T-span a e (p + n - 1) (t (p + n - 1) (omega arith) (omega arith)) in omega arith) (decide-le (p + n) e))
 
--- whatever a is
-pub block-from : (ws : List ℕ) (a e p o : ℕ) → a ≤ p → block_at ws (span a e) p o ≡ block_at ws (span p e) p o
+-- the tests of a block of n pages there, one after the other
+pub block_tests :
+    (ws : List ℕ) (a e p o n : ℕ) → o < 6 → (a ≤ p) × (p ≤ e) → n ≡ 2 ^ o →
+    block_at ws (span a e) p o ≡ (eqb (p % n) 0 && (leb n (e - p) && all_say ws (p + 1) (p + n) (compound_info o)))
 unfolding block_at
-block-from ws a e p o h = rw (all-span a e p (2 ^ o) h (pow_pos o), all-span p e p (2 ^ o) (le_refl p) (pow_pos o))
+block_tests ws a e p o n s h q =
+    let fits : leb (p + 2 ^ o) e ≡ leb (2 ^ o) (e - p) =
+    decide-same (decide-le (p + 2 ^ o) e) (decide-as (λ x. omega (arith, h.1)) (λ x. omega (arith, h.1)) (decide-le (2 ^ o) (e - p))) in
+    rw (q, lt-ltb o 6 s, all-span a e p (2 ^ o) h.0 (pow_pos o), fits)

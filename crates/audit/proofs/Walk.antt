@@ -1,7 +1,7 @@
 -- The walk from block to block: what it keeps at the end of each block. The pages of a block after its first head nothing, so they add to no
 -- count and are no half; of two free buddies the upper one is met right after the lower one; a list goes one page on with each of its free
 -- blocks.
-use Rattle.common.specs.Kit.{ℕ, zero, suc, ◌+◌, ◌-◌, ◌^◌, ◌≤◌, ◌<◌, ◌≡◌, refl, sym, ap, ◌∙◌, Bool, true, false, not, ◌&&◌, and-false, false≢true, List, length, get_or, replicate, length-set, get_or-replicate, get_or-set_same, get_or-set_other, pow_pos, le_refl, add-one, ℕ_discrete, dec_lt, arith, eq-eqb, ne_eqb, le-ltb}
+use Rattle.common.specs.Kit.{ℕ, zero, suc, ◌+◌, ◌-◌, ◌^◌, ◌≤◌, ◌<◌, ◌≡◌, refl, sym, ap, ◌∙◌, Bool, true, false, not, ◌&&◌, and-false, false≢true, List, length, get_or, replicate, length-set, get_or-replicate, get_or-set_same, get_or-set_other, pow_pos, le_refl, add-one, ℕ_discrete, dec_lt, arith, eq-eqb, ne_eqb, le-ltb, Some, None}
 use Rattle.common.proofs.Tests.{by-test, T_false}
 use Rattle.words.specs.Word.{no_page}
 use Rattle.pages.specs.Said.{said}
@@ -10,7 +10,8 @@ use Rattle.region.specs.Pages.{Block}
 use Rattle.audit.specs.Decides.{Decides}
 use Rattle.audit.specs.Check.{all, tiles, is_free, chain, block_at, lower_half, lonely}
 use Rattle.audit.specs.Counts.{one_more, Tallies}
-use Rattle.audit.specs.Survey.{upper_half, page_after, stepped, settled, Surveyed}
+use Rattle.audit.specs.Survey.{upper_half, page_after, stepped, noted, settled, Surveyed}
+use Rattle.audit.specs.declared.survey.Findings.{Findings}
 use Rattle.audit.proofs.Limit.{Bounded}
 use Rattle.audit.proofs.Decisions.{decide-as}
 use Rattle.audit.proofs.Loops.{all-step, all-ends, all-next, all-run}
@@ -46,15 +47,15 @@ module _ (ws : List ℕ) (M : ℕ → Bool) where
 
 -- before page p everything is as it should be, but that the last block, if it is free, may be the lower one of two buddies; b is then its
 -- order, else no order
-pub record Walk (ws : List ℕ) (M : ℕ → Bool) (e : ℕ) (heads bs fs at : List ℕ) (b p : ℕ) : Type 0 where
+pub record Walk (ws : List ℕ) (M : ℕ → Bool) (e : ℕ) (heads : List ℕ) (s : Findings) (b p : ℕ) : Type 0 where
   pub upto : p ≤ e
   pub tiled : Decides (tiles ws M e e 0) (TiledFrom ws M p)
   pub lone : lonely ws M e ≡ parted ws M b p && all (apart ws M) p (e - p)
-  pub tallies : Tallies ws M p bs fs
-  pub lists : Walked ws M heads fs at
+  pub tallies : Tallies ws M p s.blocks s.frees
+  pub lists : Walked ws M heads s.frees s.at
 
-bad : (ws : List ℕ) (M : ℕ → Bool) (e : ℕ) {heads xs ys zs : List ℕ} → false ≡ settled ws M e → Surveyed ws M e heads false xs ys zs
-bad ws M e a = record { answer = a; stocked = λ n. absurd (false≢true n) }
+bad : (ws : List ℕ) (M : ℕ → Bool) (e : ℕ) {heads : List ℕ} → false ≡ settled ws M e → Surveyed ws M e heads None
+bad ws M e a = record { answer = a; stocked = tt }
 
 module _ (ws : List ℕ) {M : ℕ → Bool} {e : ℕ} (bound : Bounded M e) where
   end-out : M e ≡ false
@@ -94,7 +95,7 @@ module _ (ws : List ℕ) {M : ℕ → Bool} {e : ℕ} (bound : Bounded M e) wher
 
   -- over a page that is not in M
   walk-over :
-      {heads bs fs at : List ℕ} {b p : ℕ} → Walk ws M e heads bs fs at b p → p < e → M p ≡ false → Walk ws M e heads bs fs at no_order (suc p)
+      {heads : List ℕ} {s : Findings} {b p : ℕ} → Walk ws M e heads s b p → p < e → M p ≡ false → Walk ws M e heads s no_order (suc p)
   unfolding lower_half is_free
   walk-over {p = p} w l out =
       rw (← add-one p) (record {
@@ -108,7 +109,7 @@ module _ (ws : List ℕ) {M : ℕ → Bool} {e : ℕ} (bound : Bounded M e) wher
   -- nothing is met before page a, where no page before it is in M
   pub walk-to :
       (heads : List ℕ) → length heads ≡ 6 → (a : ℕ) → a ≤ e → ((q : ℕ) → q < a → M q ≡ false) →
-      Walk ws M e heads (replicate 6 0) (replicate 6 0) heads no_order a
+      Walk ws M e heads (record { blocks = replicate 6 0; frees = replicate 6 0; at = heads }) no_order a
   walk-to heads l zero h none =
       let z : e - 0 ≡ e = omega arith in
       record {
@@ -121,7 +122,7 @@ module _ (ws : List ℕ) {M : ℕ → Bool} {e : ℕ} (bound : Bounded M e) wher
   walk-to heads l (suc a) h none =
       walk-over (walk-to heads l a (omega arith) (λ q k. none q (omega arith))) h (none a (omega arith))
 
-  module _ {heads bs fs at : List ℕ} {b p : ℕ} (w : Walk ws M e heads bs fs at b p) (on : M p ≡ true) where
+  module _ {heads : List ℕ} {s : Findings} {b p : ℕ} (w : Walk ws M e heads s b p) (on : M p ≡ true) where
     abbrev o : ℕ
     o = head_order (said ws p)
 
@@ -131,7 +132,7 @@ module _ (ws : List ℕ) {M : ℕ → Bool} {e : ℕ} (bound : Bounded M e) wher
     below : p < e
     below = bound.below p (rw on tt)
 
-    pub few : (o : ℕ) → (get_or bs o 0 < e) × (get_or fs o 0 < e)
+    pub few : (o : ℕ) → (get_or s.blocks o 0 < e) × (get_or s.frees o 0 < e)
     few o = (
       omega (arith, below, tally-most (λ q. head_order (said ws q)) M p w.tallies.blocks o),
       omega (arith, below, tally-most (λ q. free_order (said ws q)) M p w.tallies.frees o),
@@ -167,8 +168,7 @@ module _ (ws : List ℕ) {M : ℕ → Bool} {e : ℕ} (bound : Bounded M e) wher
         none q l h = ap (λ d. not (lower_half ws M (free_order d) q)) (here.rest.each q l h) ∙ ap not (high_half ws M no_order q (omega arith))
 
     -- a block more, that is no upper half
-    pub walk_more :
-        block_at ws M p o ≡ true → upper_half b f p ≡ false → Walk ws M e heads (one_more bs o) (one_more fs f) (stepped ws M e f at) f (p + 2 ^ o)
+    pub walk_more : block_at ws M p o ≡ true → upper_half b f p ≡ false → Walk ws M e heads (noted ws M e o f s) f (p + 2 ^ o)
     walk_more t n =
         let here = block t in
         let size = pow_pos o in
@@ -183,24 +183,28 @@ module _ (ws : List ℕ) {M : ℕ → Bool} {e : ℕ} (bound : Bounded M e) wher
           lists = walked_more f w.tallies.frees.long w.lists;
         }
 
-    -- the walk stops, with what has been counted so far
-    pub no_block : {xs ys zs : List ℕ} → block_at ws M p o ≡ false → Surveyed ws M e heads false xs ys zs
+    -- the walk stops
+    pub no_block : block_at ws M p o ≡ false → Surveyed ws M e heads None
     no_block t =
         bad ws M e (by-test (tiles ws M e e 0)
         (λ y. absurd (false≢true (sym t ∙ (decide-block ws M p o refl).back (starts ws M on (w.tiled.yes y)))))
         (λ n. rw n))
 
-    pub a_half : {xs ys zs : List ℕ} → upper_half b f p ≡ true → Surveyed ws M e heads false xs ys zs
+    pub no_head : head_order (said ws p) ≡ no_order → Surveyed ws M e heads None
+    unfolding block_at
+    no_head q = no_block (rw q)
+
+    pub a_half : upper_half b f p ≡ true → Surveyed ws M e heads None
     a_half t = bad ws M e (rw (w.lone, on, t) (sym (and-false (tiles ws M e e 0))))
 
-  pub walk_ends : {heads bs fs at : List ℕ} {b p : ℕ} → Walk ws M e heads bs fs at b p → e ≤ p → Surveyed ws M e heads true bs fs at
+  pub walk_ends : {heads : List ℕ} {s : Findings} {b p : ℕ} → Walk ws M e heads s b p → e ≤ p → Surveyed ws M e heads (Some s)
   unfolding chain
-  walk_ends {heads} {bs} {fs} {at} {b} {p} w h =
+  walk_ends {heads} {s} {b} {p} w h =
       let q : p ≡ e = omega (arith, w.upto) in
       record {
         answer = rw (w.tiled.back (none_left ws M bound h), w.lone, q, end-out, ← all-ends (apart ws M) e e refl (le_refl e));
-        stocked = λ _. record {
+        stocked = record {
           tallies = rw q at w.tallies;
-          chained = λ o k. let n : get_or fs o 0 ≡ get_or fs o 0 + 0 = omega arith in ap (λ m. chain ws M o m (get_or heads o 0)) n ∙ w.lists.on o k 0;
+          chained = λ o k. let n : get_or s.frees o 0 ≡ get_or s.frees o 0 + 0 = omega arith in ap (λ m. chain ws M o m (get_or heads o 0)) n ∙ w.lists.on o k 0;
         };
       }

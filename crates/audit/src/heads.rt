@@ -1,42 +1,30 @@
 // What a page heads, by its word.
-ghost use Rattle.std.specs.Prelude.{◌≡◌};
-ghost use Rattle.pages.specs.Meaning.{head_order, free_order};
+ghost use Rattle.std.specs.Prelude.{◌≡◌, OnSome, unwrap_or};
+ghost use Rattle.pages.specs.Meaning.{no_order, head_order, free_order};
 
 use pages::good_item;
-use words::word::{MAX_ORDER, PageInfo};
+use words::word::PageInfo;
 
-// The order of the block that a page heads; MAX_ORDER if it heads none.
-pub fn head_order(said: Option<PageInfo>) -> usize
-    ensures { result ≡ head_order said }
+// The order of the block that a page heads, if it heads one.
+pub fn head_order(said: Option<PageInfo>) -> Option<usize>
+    ensures { unwrap_or result no_order ≡ head_order said }
 {
-    let Some(info) = said else {
-        return MAX_ORDER;
-    };
-    match info {
-        PageInfo::Free(fi) => fi.order,
-        PageInfo::Allocated(ai) => ai.order,
-        PageInfo::Slab(si) => {
-            if good_item(si.item_size) {
-                0
-            } else {
-                MAX_ORDER
-            }
-        }
-        PageInfo::Compound(_) => MAX_ORDER,
-        PageInfo::File(fi) => { if 1 <= fi.ref_count { 0 } else { MAX_ORDER } }
-        PageInfo::Reserved(_) => MAX_ORDER,
+    match said? {
+        PageInfo::Free(fi) => Some(fi.order),
+        PageInfo::Allocated(ai) => Some(ai.order),
+        PageInfo::Slab(si) if good_item(si.item_size) => Some(0),
+        PageInfo::File(fi) if 1 <= fi.ref_count => Some(0),
+        _ => None,
     }
 }
 
-// The order of the free block that a page heads; MAX_ORDER if it heads none.
-pub fn free_order(said: Option<PageInfo>) -> usize
-    ensures { result ≡ free_order said }
+// The order of the free block that a page heads, if it heads one.
+pub fn free_order(said: Option<PageInfo>) -> Option<usize>
+    ensures order { unwrap_or result no_order ≡ free_order said }
+    ensures its_head { OnSome result (head_order said ≡ free_order said) }
 {
-    let Some(info) = said else {
-        return MAX_ORDER;
-    };
-    let PageInfo::Free(fi) = info else {
-        return MAX_ORDER;
-    };
-    fi.order
+    match said {
+        Some(PageInfo::Free(fi)) => Some(fi.order),
+        _ => None,
+    }
 }

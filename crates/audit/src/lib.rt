@@ -7,97 +7,76 @@ ghost use Rattle.audit.specs.Check.{every, keeps, numbers, sound_b};
 ghost use Rattle.audit.specs.Counts.{InLimits};
 ghost use Rattle.audit.specs.Survey.{edges, inner};
 
-use counts::same;
+use managed::Managed;
 use region::{HeapMemoryRegion, alloc_pages, pages_good};
-use survey::survey;
+use survey::{Findings, survey};
 use tiles::all_say;
 use words::place::PAGE_SIZE;
 use words::word::{AllocatedInfo, NO_PAGE, PageInfo, ReservedInfo};
 
-pub mod counts;
 pub mod heads;
 pub mod lists;
+pub mod managed;
 pub mod survey;
 pub mod tiles;
 
 // Whether the numbers of the record are those of a region with these words.
-#[tactic(auto, unfolding(crate::specs::Check::keeps))]
+#[tactic(auto, using(crate::proofs::Limit::tests))]
 fn numbers_good(region: HeapMemoryRegion, words: &[u64]) -> bool
     ensures { result ≡ every (keeps region words.now) numbers }
 {
     let start = region.start_virt.0;
     let pages = region.page_count;
-    if !pages_good(pages) {
+    if !pages_good(pages) || words.len() != pages || start % PAGE_SIZE != 0 {
         return false;
     }
-    if words.len() != pages {
-        return false;
-    }
-    if start % PAGE_SIZE != 0 {
-        return false;
-    }
-    if 0xffff_ffff_ffff_ffff - PAGE_SIZE * (pages as u64) < start {
-        return false;
-    }
-    region.allocated <= alloc_pages(pages)
+    start <= u64::MAX - PAGE_SIZE * pages as u64 && region.allocated <= alloc_pages(pages)
 }
 
 // Whether boot and metadata pages are marked as such.
+#[tactic(auto, unfolding(crate::specs::Check::keeps))]
 fn marks_good(region: HeapMemoryRegion, words: &[u64]) -> bool
     requires { InLimits region words.now }
     ensures { result ≡ every (keeps region words.now) edges }
 {
     let pages = region.page_count;
-    let end = alloc_pages(pages);
-    if !all_say(
+    all_say(
         words,
         0,
         region.allocated,
         PageInfo::Allocated(AllocatedInfo { order: 0 }),
-    ) {
-        return false;
-    }
-    all_say(words, end, pages, PageInfo::Reserved(ReservedInfo))
+    ) && all_say(
+        words,
+        alloc_pages(pages),
+        pages,
+        PageInfo::Reserved(ReservedInfo),
+    )
 }
 
 // Whether blocks tile the managed pages, no two free ones are buddies, the counts are right and the lists hold the free blocks.
+#[tactic(auto, using(crate::proofs::Found::found))]
 fn stocks_good(region: HeapMemoryRegion, words: &[u64]) -> bool
     requires { InLimits region words.now }
     ensures { result ≡ every (keeps region words.now) inner }
 {
-    let heads = region.next_page;
-    let found = survey(
+    let pages = Managed {
         words,
-        region.allocated,
-        alloc_pages(region.page_count),
-        heads,
-    );
-    if !found.good {
+        from: region.allocated,
+        end: alloc_pages(region.page_count),
+    };
+    let Some(found) = survey(pages, region.next_page) else {
         return false;
-    }
-    let nr_pages = region.nr_pages;
-    let blocks = found.blocks;
-    if !same(nr_pages, blocks) {
-        return false;
-    }
-    let free_pages = region.free_pages;
-    let frees = found.frees;
-    if !same(free_pages, frees) {
-        return false;
-    }
-    let at = found.at;
-    same(at, [NO_PAGE; 6])
+    };
+    let blocks = region.nr_pages;
+    let frees = region.free_pages;
+    let at = [NO_PAGE; 6];
+    found == Findings { blocks, frees, at }
 }
 
 // Whether record and words are sound.
+#[tactic(auto, using(crate::proofs::Sound::groups))]
 pub fn audit(region: HeapMemoryRegion, words: &[u64]) -> bool
     ensures { result ≡ sound_b region words.now }
 {
-    if !numbers_good(region, words) {
-        return false;
-    }
-    if !marks_good(region, words) {
-        return false;
-    }
-    stocks_good(region, words)
+    numbers_good(region, words) && marks_good(region, words) && stocks_good(region, words)
 }

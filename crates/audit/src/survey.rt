@@ -1,98 +1,75 @@
 // One walk from block to block: the tiling, the buddies, the counts and the lists at once.
-ghost use Rattle.std.specs.Prelude.{◌≡◌};
+ghost use Rattle.std.specs.Prelude.{◌≡◌, unwrap_or};
 ghost use Rattle.buddy.specs.Rules.{span};
+ghost use Rattle.pages.specs.Meaning.{no_order};
 ghost use Rattle.audit.specs.Counts.{Within};
-ghost use Rattle.audit.specs.Survey.{upper_half, NoteOk, Noted, Surveyed};
+ghost use Rattle.audit.specs.Survey.{upper_half, NoteOk, noted, Surveyed};
 
-use crate::counts::add_one;
 use crate::heads::{free_order, head_order};
-use crate::lists::step;
-use crate::tiles::block_at;
+use crate::managed::Managed;
 use pages::{read_page_info, size};
 use words::word::MAX_ORDER;
 
-// Whether blocks tile the pages and no two free ones are buddies. If so, the blocks and the free blocks by order, and the page that each list
-// has come to after as many steps as it has free blocks.
-#[derive(Drop)]
+// The blocks and the free blocks by order, and the page that each list has come to after as many steps as it has free blocks.
+#[derive(Drop, PartialEq, Eq)]
 pub struct Findings {
-    pub good: bool,
     pub blocks: [usize; 6],
     pub frees: [usize; 6],
     pub at: [usize; 6],
 }
 
-// Whether a block at `pfn`, free of `order`, and the one that ends there, free of order `before`, are buddies. Here and below the order of a
-// block that is not free is MAX_ORDER.
-#[tactic(auto, unfolding(crate::specs::Survey::upper_half))]
-fn is_upper_half(before: usize, order: usize, pfn: usize) -> bool
-    ensures { result ≡ upper_half before order pfn }
-{
-    if order != before {
-        return false;
-    }
-    if MAX_ORDER - 1 <= before {
-        return false;
-    }
-    pfn % size(before + 1) != 0
-}
-
-// Takes note of a block at `pfn`: one that is free of `order` is counted and its list goes a page on. Whether it is no upper half.
-#[tactic(auto, using(crate::proofs::Buddies::unnoted))]
-fn note_free(
-    words: &[u64],
-    from: usize,
-    end: usize,
-    before: usize,
-    order: usize,
-    pfn: usize,
-    frees: &mut [usize; 6],
-    at: &mut [usize; 6],
-) -> bool
-    requires { NoteOk words.now end order frees.old at.old }
-    ensures { Noted words.now (span from end) end before order pfn frees.old at.old result frees.new at.new }
-{
-    if MAX_ORDER <= order {
-        return true;
-    }
-    if is_upper_half(before, order, pfn) {
-        return false;
-    }
-    add_one(frees, order);
-    step(words, from, end, order, at);
-    true
-}
-
-// Walks from block to block, from `from` up to `end`; `heads` are those of the lists.
-pub fn survey(words: &[u64], from: usize, end: usize, heads: [usize; 6]) -> Findings
-    requires { Within words.now from end }
-    ensures { Surveyed words.now (span from end) end heads result.good result.blocks result.frees result.at }
-{
-    let mut blocks = [0usize; 6];
-    let mut frees = [0usize; 6];
-    let mut at = heads;
-    let mut before = MAX_ORDER;
-    let mut pfn = from;
-    let good = loop {
-        if end <= pfn {
-            break true;
+impl Findings {
+    // Takes note of a block of `order`: it is counted, and if it is free of `free`, its list goes a page on.
+    fn note(&mut self, pages: Managed, order: usize, free: Option<usize>)
+        requires { NoteOk order free self.old }
+        ensures { self.new ≡ noted pages.entry.words.now (span pages.entry.from pages.entry.end) pages.entry.end order (unwrap_or free no_order) self.old }
+    {
+        self.blocks[order] += 1;
+        if let Some(order) = free {
+            self.frees[order] += 1;
+            pages.step(order, &mut self.at);
         }
-        let said = read_page_info(words, pfn);
-        let order = head_order(said);
-        if !block_at(words, end, pfn, order) {
-            break false;
+    }
+}
+
+// Whether a block at `pfn`, free of `free`, and the one that ends there, free of `before`, are buddies.
+#[tactic(auto, unfolding(crate::specs::Survey::upper_half))]
+fn is_upper_half(before: Option<usize>, free: Option<usize>, pfn: usize) -> bool
+    ensures { result ≡ upper_half (unwrap_or before no_order) (unwrap_or free no_order) pfn }
+{
+    match (before, free) {
+        (Some(lower), Some(upper)) => {
+            lower == upper && lower < MAX_ORDER - 1 && pfn % size(lower + 1) != 0
+        }
+        _ => false,
+    }
+}
+
+// Walks from block to block; `heads` are those of the lists. None if blocks do not tile the pages, or two free ones are buddies.
+pub fn survey(pages: Managed, heads: [usize; 6]) -> Option<Findings>
+    requires { Within pages.words.now pages.from pages.end }
+    ensures { Surveyed pages.entry.words.now (span pages.entry.from pages.entry.end) pages.entry.end heads result }
+{
+    let mut found = Findings {
+        blocks: [0; 6],
+        frees: [0; 6],
+        at: heads,
+    };
+    let mut before = None;
+    let mut pfn = pages.from;
+    while pfn < pages.end {
+        let said = read_page_info(pages.words, pfn);
+        let order = head_order(said)?;
+        if !pages.block_at(pfn, order) {
+            return None;
         }
         let free = free_order(said);
-        if !note_free(words, from, end, before, free, pfn, &mut frees, &mut at) {
-            break false;
+        if is_upper_half(before, free, pfn) {
+            return None;
         }
-        add_one(&mut blocks, order);
+        found.note(pages, order, free);
         before = free;
         pfn += size(order);
-    };
-    Findings {
-        good,
-        blocks,
-        frees,
-        at,
     }
+    Some(found)
 }
