@@ -1,5 +1,5 @@
 -- A fill leaves the words before it and those after it, and what it writes stands between them.
-use Rattle.common.specs.Kit.{ℕ, zero, suc, ◌+◌, ◌≤◌, ◌≡◌, refl, sym, ap, ◌∙◌, List, [], ◌∷◌, ◌++◌, length, set, take, drop, replicate, zero-add, suc-add, arith}
+use Rattle.common.specs.Kit.{ℕ, zero, suc, ◌+◌, ◌≤◌, ◌≡◌, refl, sym, ap, ◌∙◌, List, [], ◌∷◌, ◌++◌, length, take, drop, replicate, zero-add, suc-add, arith}
 use Rattle.pages.specs.Fill.{fill}
 
 fill-cons : (q v k w : ℕ) (ws : List ℕ) → fill (suc q) v k (w ∷ ws) ≡ w ∷ fill q v k ws

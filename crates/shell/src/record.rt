@@ -15,7 +15,10 @@ pub fn write_field(region: HeapMemoryRegion, field: Field, i: usize, value: u64)
     ensures { (ws : List ℕ) → did result.region ws result.answer ≡ written region ws field i value }
 {
     if has_field(field, i) {
-        said(with_field(region, field, i, value), Line::new(Word::Ok, &[]))
+        said(
+            with_field(region, field, i, value),
+            Line::new(Word::Ok, &[]),
+        )
     } else {
         said(region, bad())
     }

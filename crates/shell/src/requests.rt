@@ -28,18 +28,25 @@ pub fn act(region: HeapMemoryRegion, words: &mut [u64], request: Option<Request>
     };
     match request {
         Request::Words(n) => lend(region, n),
-        Request::Setup { start, pages, boot } => {
-            told(root_mem_init(start, pages, boot, words))
-        }
+        Request::Setup { start, pages, boot } => { told(root_mem_init(start, pages, boot, words)) }
         Request::Alloc(order) => told(allocate_pages(region, words, order)),
         Request::File => told(allocate_file_page(region, words)),
         Request::Slab(size) => told(allocate_slab_page(region, words, size)),
         Request::Free(at) => told(free_page(region, words, at)),
-        Request::Get(at) => told(After { region, answer: get_file_page(region, words, at) }),
+        Request::Get(at) => told(After {
+            region,
+            answer: get_file_page(region, words, at),
+        }),
         Request::Put(at) => told(put_file_page(region, words, at)),
-        Request::Lookup(at) => told(After { region, answer: layout_from_ptr(region, words, at) }),
+        Request::Lookup(at) => told(After {
+            region,
+            answer: layout_from_ptr(region, words, at),
+        }),
         Request::Report => asked(region, TextKind::Report),
-        Request::Audit => told(After { region, answer: audit(region, words) }),
+        Request::Audit => told(After {
+            region,
+            answer: audit(region, words),
+        }),
         Request::Print => asked(region, TextKind::Print),
         Request::Lists => asked(region, TextKind::Lists),
         Request::State => asked(region, TextKind::State),

@@ -1,4 +1,4 @@
-use Rattle.common.specs.Kit.{ℕ, ◌-◌, ◌+◌, ◌≡◌, length, take, drop, arith, rules}
+use Rattle.common.specs.Kit.{◌-◌, ◌+◌, ◌≡◌, length, take, drop, arith, rules}
 use Rattle.pages.proofs.Fill.{fill-between}
 use Rattle.pages.proofs.fill_words.Goals as goal
 
