@@ -4,7 +4,7 @@ ghost use Rattle.abi.specs.Answer.{answer_of, bad_buffer};
 
 use sound_calls::Answer;
 
-// What a call answers: 0 or the number of its refusal, and what it carries, zeros where it carries less.
+// What a call answers: 0 or the number of its refusal, and what it carries, zeros where it carries less. (Numbers: the C interface.)
 #[repr(C)]
 #[derive(Clone, Copy, Debug, PartialEq, Eq)]
 pub struct Exported {

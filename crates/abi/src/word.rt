@@ -13,7 +13,7 @@ use words::word::PageInfo;
 // No word has these fields, or no fields this word: the plain "no" (W6, W7), under a number of our own (`BAD_BUFFER`).
 pub const NO: u64 = 0x4000_0001;
 
-// A page's fields: its type's number; order, item size or count; next page. 0 where the type has no such field.
+// A page's fields: its type's number; order, item size or count; next page. 0 where the type has no such field. (Numbers: the C interface.)
 #[repr(C)]
 #[derive(Clone, Copy, Debug, PartialEq, Eq)]
 pub struct Fields {

@@ -1,4 +1,5 @@
-// The calls of `abi` as C programs find them: one exported function for each, with the same name and the same promise.
+// The calls of `abi` as C programs find them: one exported function for each, with the same name and the same promise. (The C interface: only a
+// static library may export.)
 // For monitors that link the static library; bindings/ has the header and the Rust module over it. Below it stands `abi`, which has what each does.
 #![tactic(auto)]
 

@@ -1,4 +1,4 @@
-// What the calls of the heap answer, as lines.
+// What the calls of the heap answer, as lines. (Functions and no From: Line is of `text`, and the answers are of the heap's crates.)
 ghost use Rattle.std.specs.Prelude.{◌≡◌, [], ◌∷◌};
 ghost use Rattle.text.specs.Line.{line};
 ghost use Rattle.text.specs.declared.answer.Word.{Word};

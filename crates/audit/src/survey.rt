@@ -45,7 +45,8 @@ fn is_upper_half(before: Option<usize>, free: Option<usize>, pfn: usize) -> bool
     }
 }
 
-// Walks from block to block; `heads` are those of the lists. None if blocks do not tile the pages, or two free ones are buddies.
+// Walks from block to block; `heads` are those of the lists. None if blocks do not tile the pages, or two free ones are buddies. (Each step is as
+// long as the block at `pfn`, so `pfn` is moved by hand: no range has such steps.)
 pub fn survey(pages: Managed, heads: [usize; 6]) -> Option<Findings>
     requires { Within pages.words.now pages.from pages.end }
     ensures { Surveyed pages.entry.words.now (span pages.entry.from pages.entry.end) pages.entry.end heads result }

@@ -7,8 +7,8 @@ use crate::managed::Managed;
 use pages::size;
 use words::word::{CompoundInfo, MAX_ORDER, PageInfo, PageStorageType};
 
-// Whether every page from `from` up to `end` has the word of `info`. All are looked at, and `others` gathers the bits in which one differs:
-// a loop with no way out but its end is compiled to take several words at once.
+// Whether every page from `from` up to `end` has the word of `info`. (Asked of three ranges, two of them not managed: so no method of Managed.) All
+// are looked at, and `others` gathers the bits in which one differs: a loop with no way out but its end is compiled to take several words at once.
 pub fn all_say(words: &[u64], from: usize, end: usize, info: PageInfo) -> bool
     requires { end ≤ length words.now }
     ensures { result ≡ all_say words.now from end info }

@@ -10,7 +10,7 @@ use pages::write_page_info;
 use region::{After, HeapMemoryRegion};
 use words::word::{MAX_ORDER, NO_PAGE, PageInfo};
 
-// The lowest order from `order` on whose list is not empty.
+// The lowest order from `order` on whose list is not empty. (A loop left by `break` with the order: the form that document 01 names.)
 pub fn find_order(heads: [usize; 6], order: usize) -> Option<usize>
     requires { order ≤ 6 }
     ensures { result ≡ lowest_from (6 - order) order heads }

@@ -1,4 +1,5 @@
-// The calls that grant, return and count pages. Each audits first, and hands on what the audit refuses.
+// The calls that grant, return and count pages. Each audits first, and hands on what the audit refuses. (The match is all that a call is: a function
+// that took the inner call as a closure would be as long at each call.)
 ghost use Rattle.std.specs.Prelude.{◌≡◌};
 ghost use Rattle.buddy.specs.Request.{for_block, for_file, for_slab, on, to_free, to_get, to_put};
 ghost use Rattle.sound_calls.specs.Answer.{effect_of, done, grant, count};

@@ -1,5 +1,5 @@
 // The three calls that a kernel makes most, with the record lent and changed in place (each copies it out, calls the function by value and stores it
-// back). For who holds the record behind a reference.
+// back). For who holds the record behind a reference. (Three functions of one shape, with `&mut` on the record: the form that document 01 names.)
 // Below it stands `heap`, whose functions take the record by value and hand it back beside the answer.
 #![tactic(auto)]
 

@@ -74,7 +74,8 @@ pub fn grow_span(
     }
 }
 
-// Sets a region up: all words written, and the managed pages made blocks and freed.
+// Sets a region up: all words written, and the managed pages made blocks and freed. (Its numbers come one by one, as C gives them: the record is
+// made here.)
 #[tactic(auto, unfolding(crate::specs::Steps::init_memory, crate::specs::Steps::blank))]
 pub fn init_memory(
     words: &mut [u64],

@@ -18,7 +18,7 @@ use words::word::{FileInfo, PageInfo};
 // The largest count that a word has.
 const MAX_COUNT: u64 = 0xfff_ffff_ffff_ffff;
 
-// What the word of a file page says of it.
+// What the word of a file page says of it. (Taken apart by `let PageInfo::File(fi) = info else`: the form that document 01 names.)
 fn file_at(words: &[u64], pfn: usize, vaddr: VirtAddr) -> Result<FileInfo, AllocError>
     requires { pfn < length words.now }
     ensures { result ≡ file_at vaddr (said words.now pfn) }

@@ -1,5 +1,6 @@
 // The calls on a sound state, each by the table's checks and then the rule: what the public calls do once the audit has passed.
-// For the crate `heap`, and for whatever audits once and then calls often. Below it stand `grant` and `release`.
+// For the crate `heap`, and for whatever audits once and then calls often. Below it stand `grant` and `release`. (That record and words are sound is
+// asked in each contract and stands in no type: document 01 has the record by value and the words lent beside it.)
 #![tactic(auto)]
 
 ghost use Rattle.std.specs.Prelude.{ℕ, ◌≡◌, List, [], ◌∷◌};
@@ -47,7 +48,7 @@ pub fn refuse<T>(region: HeapMemoryRegion, why: AllocError) -> After<Result<T, A
     }
 }
 
-// An answer as numbers: 0 or the number of its refusal, and what it carries.
+// An answer as numbers: 0 or the number of its refusal, and what it carries. (Numbers, since document 01, C and the shell know a refusal by its own.)
 #[derive(Clone, Copy, Debug, PartialEq, Eq)]
 pub struct Answer {
     pub number: u64,

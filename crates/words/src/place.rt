@@ -12,7 +12,7 @@ pub struct PageNumber(pub u64);
 #[derive(Clone, Copy, Debug, PartialEq, Eq)]
 pub struct VirtAddr(pub u64);
 
-// Where an address lies in a region: at the first byte of a page, at another byte of one, or in none.
+// Where an address lies in a region: at the first byte of a page, at another byte of one, or in none. (Three cases, so no Option.)
 #[derive(Clone, Copy)]
 pub enum PageAt {
     Start(PageNumber),
@@ -20,6 +20,7 @@ pub enum PageAt {
     Outside,
 }
 
+// The one way from each to the other takes the region's start and pages one by one: it stands below the record, which has them.
 impl VirtAddr {
     // The page of a region of `pages` pages from `start` on that holds this address.
     #[tactic(auto, unfolding(crate::specs::Place::page_at))]

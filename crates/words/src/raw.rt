@@ -34,7 +34,7 @@ impl From<PageInfo> for Fields {
     }
 }
 
-// The word of raw fields, by the type's number. A field that the type does not have must be 0.
+// The word of raw fields, by the type's number. A field that the type does not have must be 0. (Three numbers: C and the shell give them so.)
 #[tactic(auto, unfolding(crate::specs::RawFields::encode_fields, crate::specs::Word::type_of))]
 pub fn encode_fields(kind: u64, field: u64, next: u64) -> Option<PageStorageType>
     ensures { result ≡ encode_fields kind field next }

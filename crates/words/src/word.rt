@@ -2,7 +2,7 @@
 ghost use Rattle.std.specs.Prelude.{◌≡◌, true};
 ghost use Rattle.words.specs.Word.{type_of, row, next_page_of, next_field, has_field, decode_of, in_table, word_of, encode_of, mem_of};
 
-// No page: what the record and a FreeInfo write for none.
+// No page: what the record and a FreeInfo write for none. (A number and no Option, since record and words hold it so, by document 01.)
 pub const NO_PAGE: usize = 0xffff_ffff_ffff_ffff;
 
 // Orders are below this.
@@ -103,7 +103,8 @@ impl PageStorageType {
 
     const NO_NEXT: u64 = 0xffff_ffff_ffff_ffff >> Self::NEXT_SHIFT;
 
-    // What a word says. A word that does not fit the table is refused: by its type, then its order, then its spare bits.
+    // What a word says. A word that does not fit the table is refused: by its type, then its order, then its spare bits. (Associated functions, as
+    // document 01 wants `decode`, and no TryFrom: the plain "no" has no error to give.)
     #[tactic(auto, unfolding(crate::specs::Word::decode_of, crate::specs::Word::type_of))]
     pub fn decode(word: PageStorageType) -> Option<PageInfo>
         ensures { result ≡ decode_of word.0 }
