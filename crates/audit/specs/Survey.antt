@@ -1,11 +1,21 @@
 -- What the walk from block to block asks at each block, what it answers, and which lines that decides.
-use Rattle.std.specs.Prelude.{ℕ, ◌+◌, ◌%◌, ◌^◌, ◌<◌, ◌≡◌, Bool, cond, not, ◌&&◌, List, [], ◌∷◌, eqb, ltb, get_or, set, is_some, IfSome, Option}
+use Rattle.std.specs.Prelude.{ℕ, ◌+◌, ◌%◌, ◌^◌, ◌<◌, ◌≡◌, Bool, cond, not, ◌&&◌, List, [], ◌∷◌, eqb, ltb, get_or, set, is_some, IfSome, Option, Some, None}
 use Rattle.words.specs.Word.{no_page}
+use Rattle.words.specs.declared.word.PageInfo.{PageInfo}
+use Rattle.buddy.specs.Heap.{is_free as is_free_kind}
 use Rattle.pages.specs.Said.{said, next_in}
+use Rattle.pages.specs.Meaning.{means, if_head, good_kind}
 use Rattle.region.specs.State.{room}
 use Rattle.audit.specs.Check.{tiles, is_free, chain, lonely, Line, boot, metadata, tiled, lists, buddies, totals, free}
 use Rattle.audit.specs.Counts.{one_more, Tallies}
 use Rattle.audit.specs.declared.survey.Findings.{Findings}
+
+-- the order of the block that a page heads, and of the free block, if it heads one: `head_order` and `free_order`, where these say no order
+abbrev pub headed : Option PageInfo → Option ℕ
+headed d = if_head (means d) (λ k o. cond (good_kind k) (Some o) None) None
+
+abbrev pub freed : Option PageInfo → Option ℕ
+freed d = if_head (means d) (λ k o. cond (is_free_kind k) (Some o) None) None
 
 -- a free block of order o at page p, and one of order b that ends there, are buddies: p is no multiple of the size of both together
 unfoldable pub upper_half : ℕ → ℕ → ℕ → Bool

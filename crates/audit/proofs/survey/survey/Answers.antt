@@ -30,7 +30,7 @@ module _ (c : Else-not-block_at) where
   ws = c.args.pages.words.now
 
   here : block_at ws (span c.args.pages.from c.args.pages.end) c.loop-pfn.pfn (head_order (said ws c.loop-pfn.pfn)) ≡ true
-  here = rw (← c.read_page_info-said.ensures, ← c.in_ok-order.ensures) (sym c.if-not-block_at.ensures)
+  here = rw (← c.read_page_info-said.ensures, ← c.in_ok-order.ensures.order) (sym c.if-not-block_at.ensures)
 
   fits : (c.in_ok-order.order < 6) × (c.loop-pfn.pfn + 2 ^ c.in_ok-order.order ≤ c.args.pages.end)
   fits =
@@ -38,7 +38,7 @@ module _ (c : Else-not-block_at) where
       let w = c.loop-pfn.invariant in
       let in_it = span-in _ _ _ w.0 (omega arith) in
       let b = block ws bound w.1 in_it here in
-      rw (c.in_ok-order.ensures, c.read_page_info-said.ensures) (b.small, block-ends ws bound w.1 in_it b)
+      rw (c.in_ok-order.ensures.order, c.read_page_info-said.ensures) (b.small, block-ends ws bound w.1 in_it b)
 
 pub loop-pfn-init : goal.loop-pfn-init
 loop-pfn-init c =
@@ -49,12 +49,12 @@ pub returns-in_err-order : goal.returns-in_err-order
 returns-in_err-order c =
     rw c.from_residual.ensures
     (no_head _ (within-bounded c.requires) c.loop-pfn.invariant.1 (on (goal.at.returns-in_err-order c).In-loop-pfn)
-    (rw (← c.read_page_info-said.ensures) (sym c.in_err-order.ensures)))
+    (rw (← c.read_page_info-said.ensures) (sym c.in_err-order.ensures.order)))
 
 pub returns-then-not-block_at : goal.returns-then-not-block_at
 returns-then-not-block_at c =
     no_block _ (within-bounded c.requires) c.loop-pfn.invariant.1 (on (goal.at.returns-then-not-block_at c).In-loop-pfn)
-    (rw (← c.read_page_info-said.ensures, ← c.in_ok-order.ensures) (sym c.if-not-block_at.ensures))
+    (rw (← c.read_page_info-said.ensures, ← c.in_ok-order.ensures.order) (sym c.if-not-block_at.ensures))
 
 pub returns-then-is_upper_half : goal.returns-then-is_upper_half
 returns-then-is_upper_half c =
@@ -70,7 +70,7 @@ note-requires c =
     record {
       small = small;
       few = omega (arith, (counts c.in_ok-order.order).0, c.requires.few);
-      free = free-small c.read_page_info-said.result _ _ free.order free.its_head c.in_ok-order.ensures small
+      free = free-small c.read_page_info-said.result _ _ free.order free.its_head c.in_ok-order.ensures.order small
           (λ n. omega (arith, (counts n).1, c.requires.few));
     }
 
@@ -86,7 +86,7 @@ loop-pfn-preserved c =
     let read = c.read_page_info-said.ensures in
     let free = c.free_order-free.ensures.order in (
       omega arith,
-      rw (c.size-pfn.ensures, c.note.ensures, free, c.in_ok-order.ensures, read)
+      rw (c.size-pfn.ensures, c.note.ensures, free, c.in_ok-order.ensures.order, read)
           (walk_more _ (within-bounded c.requires) c.loop-pfn.invariant.1 (on at.In-loop-pfn) (here at.Else-not-block_at)
           (rw (← read, ← free) (sym c.if-is_upper_half.ensures))),
     )
