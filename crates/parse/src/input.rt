@@ -47,7 +47,8 @@ pub fn only_word(text: &[u8]) -> Option<&[u8]>
     }
 }
 
-// How many bytes at the start are white space, or how many are not.
+// How many bytes at the start are white space, or how many are not. (One function for both, told by a bool, with a clause of its own: written out in
+// `next_word`, what the two chains count stays open there.)
 fn run(text: &[u8], blanks: bool) -> usize
     ensures within { result ≤ length text.now }
     ensures count { result ≡ prefix_len (λ b. beq (blank b) blanks) text.now }
