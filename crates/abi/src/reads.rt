@@ -38,9 +38,9 @@ pub fn tingmudra_memory_info(numbers: &[u64], words: &[u64], report: &mut [u64])
     let Some(record) = numbers.as_array::<RECORD>() else {
         return bad_buffer();
     };
-    if report.len() != REPORT {
+    let Some(report) = report.as_mut_array::<REPORT>() else {
         return bad_buffer();
-    }
+    };
     match memory_info(load(record), words) {
         Ok(info) => {
             let free_pages = info.free_pages;

@@ -8,7 +8,7 @@ use words::place::VirtAddr;
 // The length of a record.
 pub(crate) const RECORD: usize = 21;
 
-// The record that the numbers say.
+// The record that the numbers say. (A function and no From, as is `store`: both types are of others.)
 #[tactic(auto, unfolding(crate::specs::Record::unpacked))]
 pub(crate) fn load(numbers: &[u64; RECORD]) -> HeapMemoryRegion
     ensures { result ≡ unpacked numbers.now }
@@ -26,7 +26,7 @@ pub(crate) fn load(numbers: &[u64; RECORD]) -> HeapMemoryRegion
     }
 }
 
-// The six numbers from a place on.
+// The six numbers from a place on. (`array::from_fn` was tried: that what its closure gave is that part of the list stays open.)
 fn six(numbers: &[u64], from: usize) -> [usize; 6]
     requires { from + 6 ≤ length numbers.now }
     ensures { result ≡ six_from numbers.now from }

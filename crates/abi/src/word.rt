@@ -8,7 +8,7 @@ ghost use Rattle.abi.specs.Word.{said_of, encoded_of};
 use crate::answer::Exported;
 use heap::word::{decode, encode_fields, get_order};
 use words::raw;
-use words::word::PageInfo;
+use words::word::{PageInfo, PageStorageType};
 
 // No word has these fields, or no fields this word: the plain "no" (W6, W7), under a number of our own (`BAD_BUFFER`).
 pub const NO: u64 = 0x4000_0001;
@@ -52,22 +52,30 @@ pub fn tingmudra_decode(word: u64) -> Fields
     Fields::from(decode(word))
 }
 
+impl From<Option<PageStorageType>> for Exported {
+    ghost from_gives = { λ encoded exported. exported ≡ encoded_of encoded };
+
+    fn from(encoded: Option<PageStorageType>) -> Exported {
+        match encoded {
+            Some(word) => Exported {
+                number: 0,
+                value: word.0,
+                second: 0,
+            },
+            None => Exported {
+                number: NO,
+                value: 0,
+                second: 0,
+            },
+        }
+    }
+}
+
 // The word of raw fields, by the type's number.
 pub fn tingmudra_encode(kind: u64, field: u64, next: u64) -> Exported
     ensures { result ≡ encoded_of (encode_fields kind field next) }
 {
-    match encode_fields(kind, field, next) {
-        Some(word) => Exported {
-            number: 0,
-            value: word.0,
-            second: 0,
-        },
-        None => Exported {
-            number: NO,
-            value: 0,
-            second: 0,
-        },
-    }
+    Exported::from(encode_fields(kind, field, next))
 }
 
 // The least order whose block holds a size in bytes.

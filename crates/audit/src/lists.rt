@@ -1,4 +1,4 @@
-// The free lists, a page at a time.
+// The free lists, a page at a time. (Orders below 6 are asked in contracts, as in `pages`.)
 ghost use Rattle.std.specs.Prelude.{◌≡◌, ◌<◌, length};
 ghost use Rattle.buddy.specs.Rules.{span};
 ghost use Rattle.audit.specs.Survey.{page_after, stepped};
@@ -8,7 +8,8 @@ use pages::read_page_info;
 use words::word::PageInfo;
 
 impl<'a> Managed<'a> {
-    // The page after `pfn` on a list of free blocks of `order`; `end`, which is on no list, if `pfn` is no such block.
+    // The page after `pfn` on a list of free blocks of `order`; `end`, which is on no list, if `pfn` is no such block. (`end` and no Option: the
+    // definition `page_after` says so, and where a list has come to is a number beside the record's heads.)
     #[tactic(auto, unfolding(crate::specs::Survey::page_after, crate::specs::Check::is_free, buddy::specs::Rules::span))]
     fn page_after(self, order: usize, pfn: usize) -> usize
         requires { order < 6 }

@@ -10,7 +10,8 @@ use crate::managed::Managed;
 use pages::{read_page_info, size};
 use words::word::MAX_ORDER;
 
-// The blocks and the free blocks by order, and the page that each list has come to after as many steps as it has free blocks.
+// The blocks and the free blocks by order, and the page that each list has come to after as many steps as it has free blocks. (Arrays by order, as
+// the record has them, by document 01: they are compared with the record's as they are.)
 #[derive(Drop, PartialEq, Eq)]
 pub struct Findings {
     pub blocks: [usize; 6],

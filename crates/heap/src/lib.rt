@@ -7,7 +7,7 @@ pub mod requests;
 pub mod start;
 pub mod word;
 
-// Both count arrays of a sound region.
+// Both count arrays of a sound region. (Arrays by order, as the record has them, by document 01.)
 #[derive(Clone, Copy, Debug, PartialEq, Eq)]
 pub struct Report {
     pub total_pages: [usize; 6],

@@ -15,7 +15,8 @@ pub fn empty_region() -> HeapMemoryRegion
     bare_region(VirtAddr(0), 0, 0)
 }
 
-// Whether a region can be set up with these numbers, and if not, the first refusal.
+// Whether a region can be set up with these numbers, and if not, the first refusal. (The tests of the audit's `numbers_good`, which stands below and
+// knows no refusals: here each has its own. The numbers come one by one, since no record stands yet.)
 #[tactic(auto, unfolding(crate::specs::Promise::set_up_answer))]
 fn set_up_answer(
     start_virt: VirtAddr,
@@ -35,7 +36,7 @@ fn set_up_answer(
     if start % PAGE_SIZE != 0 {
         return Err(AllocError::BadStart);
     }
-    if 0xffff_ffff_ffff_ffff - PAGE_SIZE * (page_count as u64) < start {
+    if u64::MAX - PAGE_SIZE * (page_count as u64) < start {
         return Err(AllocError::BadStart);
     }
     if alloc_pages(page_count) < allocated {

@@ -1,6 +1,7 @@
 // The words of a region's pages, lent as u64: one word read or written, a row of them, a block's.
 // For the steps on lists and blocks above it. It knows no record; below it stands `words`. (That a page has a word, and that an order is below 6, is
-// asked as a slice asks it of an index: a type of such pages or orders would have to be made at each call, from the same fact.)
+// asked as a slice asks it of an index: a type of such pages or orders would have to be made at each call, from the same fact. A block's page and order
+// go one by one, as upstream's clauses have them: docs/CONTRACTS.md.)
 #![tactic(auto)]
 
 ghost use Rattle.std.specs.Prelude.{◌≡◌, ◌+◌, ◌<◌, ◌≤◌, ◌^◌, length, set};
@@ -28,7 +29,8 @@ pub fn write_page_info(words: &mut [u64], pfn: usize, info: PageInfo)
     words[pfn] = word.0;
 }
 
-// The page after a free page on its list; NO_PAGE at the end, and for a page that is not free.
+// The page after a free page on its list; NO_PAGE at the end, and for a page that is not free. (A number and no Option: a step hands it on as it is
+// from a word's raw fields to the record or to another word, and these write none as NO_PAGE.)
 pub fn next_free_pfn(words: &[u64], pfn: usize) -> usize
     requires { pfn < length words.now }
     ensures { result ≡ next_in (said words.now pfn) }

@@ -1,4 +1,4 @@
-// Blocks: a split into two halves, a merge of two buddies (C30, C31).
+// Blocks: a split into two halves, a merge of two buddies (C30, C31). (Orders below 6 are asked in contracts, as in `pages`.)
 ghost use Rattle.std.specs.Prelude.{◌≡◌, ◌-◌, ◌<◌};
 ghost use Rattle.region.specs.State.{st, Gives, with_blocks, SplitOk, split, lower, MergeOk, merge};
 
@@ -7,7 +7,7 @@ use pages::{init_compound_page, mark_compound_page, size, write_page_info};
 use words::word::{AllocatedInfo, PageInfo};
 
 impl HeapMemoryRegion {
-    // The record with another number of blocks of one order.
+    // The record with another number of blocks of one order. (By way of a local: the form that document 01 names.)
     #[tactic(auto, unfolding(crate::specs::State::with_blocks))]
     pub fn with_blocks(self, order: usize, count: usize) -> HeapMemoryRegion
         requires { order < 6 }

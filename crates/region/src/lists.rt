@@ -1,4 +1,4 @@
-// The six lists: take the head, put at the head, take a named block out (C20 to C22).
+// The six lists: take the head, put at the head, take a named block out (C20 to C22). (Orders below 6 are asked in contracts, as in `pages`.)
 ghost use Rattle.std.specs.Prelude.{◌≡◌, ◌<◌};
 ghost use Rattle.region.specs.State.{st, Gives, with_list, TakeOk, take_head, head_taken, PutOk, put_head, WalkOk, page_before, CutOk, cut, PullOk, pull, pulls};
 
@@ -26,7 +26,7 @@ pub fn page_before(words: &[u64], first: usize, pfn: usize, count: usize) -> Opt
 }
 
 impl HeapMemoryRegion {
-    // The record with another head and count of one list.
+    // The record with another head and count of one list. (By way of a local: the form that document 01 names.)
     #[tactic(auto, unfolding(crate::specs::State::with_list))]
     pub fn with_list(self, order: usize, head: usize, free: usize) -> HeapMemoryRegion
         requires { order < 6 }

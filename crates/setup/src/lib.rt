@@ -63,7 +63,7 @@ pub fn grow_span(
     requires { GrowSpanOk from to (st region words.old) }
     ensures { st result words.new ≡ grow_span from to (st region words.old) }
 {
-    let first = (from + (RUN - 1)) / RUN * RUN;
+    let first = from.next_multiple_of(RUN);
     let last = to / RUN * RUN;
     if first < last {
         let runs = grow_blocks(region, words, first, (last - first) / RUN, MAX_ORDER - 1);
@@ -74,8 +74,8 @@ pub fn grow_span(
     }
 }
 
-// Sets a region up: all words written, and the managed pages made blocks and freed. (Its numbers come one by one, as C gives them: the record is
-// made here.)
+// Sets a region up: all words written, and the managed pages made blocks and freed. (Its numbers come one by one: of them the record
+// is made here.)
 #[tactic(auto, unfolding(crate::specs::Steps::init_memory, crate::specs::Steps::blank))]
 pub fn init_memory(
     words: &mut [u64],

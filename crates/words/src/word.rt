@@ -2,7 +2,7 @@
 ghost use Rattle.std.specs.Prelude.{◌≡◌, true};
 ghost use Rattle.words.specs.Word.{type_of, row, next_page_of, next_field, has_field, decode_of, in_table, word_of, encode_of, mem_of};
 
-// No page: what the record and a FreeInfo write for none. (A number and no Option, since record and words hold it so, by document 01.)
+// No page: what the record and a FreeInfo write for none. (A number and no Option: document 01 gives the record this number, and C reads both as numbers.)
 pub const NO_PAGE: usize = 0xffff_ffff_ffff_ffff;
 
 // Orders are below this.
