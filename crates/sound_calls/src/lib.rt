@@ -4,10 +4,12 @@
 #![tactic(auto)]
 
 ghost use Rattle.std.specs.Prelude.{ℕ, ◌≡◌, List, [], ◌∷◌};
+ghost use Rattle.words.specs.Place.{page_at};
 ghost use Rattle.sound_calls.specs.Answer.{ok, refusal, told};
+ghost use Rattle.sound_calls.specs.Code.{start_page};
 
 use region::{After, HeapMemoryRegion};
-use words::place::VirtAddr;
+use words::place::{PageAt, VirtAddr};
 
 pub mod files;
 pub mod free;
@@ -45,6 +47,16 @@ pub fn refuse<T>(region: HeapMemoryRegion, why: AllocError) -> After<Result<T, A
     After {
         region,
         answer: Err(why),
+    }
+}
+
+// The page that an address starts.
+fn page_of(region: HeapMemoryRegion, vaddr: VirtAddr) -> Result<usize, AllocError>
+    ensures { result ≡ start_page vaddr (page_at region.start_virt.0 region.page_count vaddr.0) }
+{
+    match vaddr.get_pfn(region.start_virt, region.page_count as u64) {
+        PageAt::Start(page) => Ok(page.0 as usize),
+        PageAt::Within(_) | PageAt::Outside => Err(AllocError::InvalidHeapAddress(vaddr)),
     }
 }
 
