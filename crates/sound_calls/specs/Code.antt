@@ -21,7 +21,7 @@ abbrev pub address_grant : Option VirtAddr → Result VirtAddr AllocError
 address_grant (Some a) = Ok a
 address_grant None = Err OutOfMemory
 
--- the page that the address a starts, where it lies so; refusal 7 for any other
+-- the page that an address starts, from where it lies in the region; refusal 7 if it starts none (R7)
 abbrev pub start_page : VirtAddr → PageAt → Result ℕ AllocError
 start_page a (Start p) = Ok p.0
 start_page a (Within p) = Err (InvalidHeapAddress a)
