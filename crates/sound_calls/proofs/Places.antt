@@ -1,7 +1,9 @@
 -- Pages and addresses of a sound region: a page that an address names has a word, and the address of a page is written in 64 bits.
-use Rattle.common.specs.Kit.{ℕ, ◌+◌, ◌*◌, ◌<◌, ◌≡◌, refl, subst, ◌≢◌, List, [], ◌∷◌, arith}
+use Rattle.common.specs.Kit.{ℕ, ◌+◌, ◌*◌, ◌<◌, ◌≡◌, refl, ap, subst, ◌≢◌, List, [], ◌∷◌, arith}
+use Rattle.std.specs.Prelude.{Ok}
 use Rattle.words.specs.Place.{page_at, address_at}
 use Rattle.words.specs.declared.place.PageNumber.{PageNumber}
+use Rattle.words.specs.declared.place.VirtAddr.{VirtAddr}
 use Rattle.words.specs.declared.place.PageAt.{PageAt}
 use Rattle.words.specs.declared.place.PageAt.TheVariants.{Start, Within}
 use Rattle.words.proofs.PlaceLaws.{Starts, starts, address-of}
@@ -11,7 +13,7 @@ use Rattle.region.specs.Sound.{Sound}
 use Rattle.region.specs.declared.HeapMemoryRegion.{HeapMemoryRegion}
 use Rattle.sound_calls.specs.Answer.{ok, no, grant, Effect}
 use Rattle.sound_calls.specs.Promise.{kept, layout_of, at_page, on_page, looked_up, looks_up}
-use Rattle.sound_calls.specs.Code.{address_grant}
+use Rattle.sound_calls.specs.Code.{address_grant, start_page}
 
 -- where an address lies in a region
 abbrev pub place : HeapMemoryRegion → ℕ → PageAt
@@ -19,6 +21,14 @@ place r a = page_at r.start_virt.0 r.page_count a
 
 pub start-in : (r : HeapMemoryRegion) (a : ℕ) (p : PageNumber) → place r a ≡ Start p → p.0 < r.page_count
 start-in r a p e = (subst (Starts r.start_virt.0 r.page_count a) e (starts _ _ a)).0
+
+-- the page that a call finds is the one that its address starts
+pub page-starts : (a : VirtAddr) (x : PageAt) {n : ℕ} → start_page a x ≡ Ok n → x ≡ Start (record { 0 = n })
+page-starts a (Start p) {n} e =
+    let same : p.0 ≡ n = cc e in
+    ap (λ m. Start (record { 0 = m })) same
+page-starts a (Within p) e = absurd (cc e)
+page-starts a PageAt.Outside e = absurd (cc e)
 
 -- the page that a lookup reads: it rounds down to one
 pub record Names (r : HeapMemoryRegion) (ws : List ℕ) (a : ℕ) (p : PageNumber) : Type 0 where

@@ -1,6 +1,8 @@
 -- What the inner functions of the calls answer and leave, by the steps on a state.
 use Rattle.std.specs.Prelude.{ℕ, ◌<◌, ◌≡◌, [], cond, Option, Some, None, Result, Ok, Err}
 use Rattle.words.specs.Place.{address_at}
+use Rattle.words.specs.declared.place.PageAt.{PageAt}
+use Rattle.words.specs.declared.place.PageAt.TheVariants.{Start, Within}
 use Rattle.words.specs.declared.word.PageInfo.{PageInfo}
 use Rattle.buddy.specs.Heap.{is_free}
 use Rattle.pages.specs.Meaning.{means, if_head}
@@ -10,7 +12,7 @@ use Rattle.region.specs.Steps.{grant_page}
 use Rattle.region.specs.Steps as Steps
 use Rattle.sound_calls.specs.Answer.{no, grant, Effect, effect_of}
 use Rattle.sound_calls.specs.declared.Answer.{Answer}
-use Rattle.sound_calls.specs.declared.AllocError.TheVariants.{OutOfMemory}
+use Rattle.sound_calls.specs.declared.AllocError.TheVariants.{OutOfMemory, InvalidHeapAddress}
 use Rattle.sound_calls.specs.declared.AllocError.{AllocError}
 use Rattle.words.specs.declared.place.VirtAddr.{VirtAddr}
 
@@ -18,6 +20,12 @@ use Rattle.words.specs.declared.place.VirtAddr.{VirtAddr}
 abbrev pub address_grant : Option VirtAddr → Result VirtAddr AllocError
 address_grant (Some a) = Ok a
 address_grant None = Err OutOfMemory
+
+-- the page that an address starts, from where it lies in the region; refusal 7 if it starts none (R7)
+abbrev pub start_page : VirtAddr → PageAt → Result ℕ AllocError
+start_page a (Start p) = Ok p.0
+start_page a (Within p) = Err (InvalidHeapAddress a)
+start_page a PageAt.Outside = Err (InvalidHeapAddress a)
 
 -- the order of the block that a free takes at a word
 abbrev pub freeable : Option PageInfo → Option ℕ

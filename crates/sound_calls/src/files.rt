@@ -8,11 +8,11 @@ ghost use Rattle.sound_calls.specs.Promise.{does};
 ghost use Rattle.pages.specs.Said.{said};
 ghost use Rattle.sound_calls.specs.Files.{file_at, got_count, got_words, PutFileOk, put_count, put_state};
 
-use crate::{AllocError, refuse};
+use crate::{AllocError, page_of, refuse};
 use pages::{read_page_info, write_page_info};
 use region::{After, HeapMemoryRegion};
 use release::free_page_order;
-use words::place::{PageAt, VirtAddr};
+use words::place::VirtAddr;
 use words::word::{FileInfo, PageInfo};
 
 // The largest count that a word has.
@@ -86,11 +86,8 @@ pub fn get_file_page(
     requires { Sound region words.old }
     ensures { effect_of (count result) region words.new ≡ does region words.old (on to_get vaddr.0) }
 {
-    let place = vaddr.get_pfn(region.start_virt, region.page_count as u64);
-    let PageAt::Start(page) = place else {
-        return Err(AllocError::InvalidHeapAddress(vaddr));
-    };
-    get_at(words, page.0 as usize, vaddr)
+    let pfn = page_of(region, vaddr)?;
+    get_at(words, pfn, vaddr)
 }
 
 #[tactic(auto, unfolding(crate::specs::Promise::does, crate::specs::Promise::at_page))]
@@ -102,9 +99,9 @@ pub fn put_file_page(
     requires { Sound region words.old }
     ensures { effect_of (count result.answer) result.region words.new ≡ does region words.old (on to_put vaddr.0) }
 {
-    let place = vaddr.get_pfn(region.start_virt, region.page_count as u64);
-    let PageAt::Start(page) = place else {
-        return refuse(region, AllocError::InvalidHeapAddress(vaddr));
+    let pfn = match page_of(region, vaddr) {
+        Ok(pfn) => pfn,
+        Err(why) => return refuse(region, why),
     };
-    put_at(region, words, page.0 as usize, vaddr)
+    put_at(region, words, pfn, vaddr)
 }

@@ -6,11 +6,11 @@ ghost use Rattle.sound_calls.specs.Answer.{effect_of, done};
 ghost use Rattle.sound_calls.specs.Promise.{does};
 ghost use Rattle.sound_calls.specs.Code.{freeable};
 
-use crate::{AllocError, refuse};
+use crate::{AllocError, page_of, refuse};
 use pages::read_page_info;
 use region::{After, HeapMemoryRegion};
 use release::free_page_order;
-use words::place::{PageAt, VirtAddr};
+use words::place::VirtAddr;
 use words::word::PageInfo;
 
 // The order of the block that a free takes at this word.
@@ -33,11 +33,10 @@ pub fn free_page(
     requires { Sound region words.old }
     ensures { effect_of (done result.answer) result.region words.new ≡ does region words.old (on to_free vaddr.0) }
 {
-    let place = vaddr.get_pfn(region.start_virt, region.page_count as u64);
-    let PageAt::Start(page) = place else {
-        return refuse(region, AllocError::InvalidHeapAddress(vaddr));
+    let pfn = match page_of(region, vaddr) {
+        Ok(pfn) => pfn,
+        Err(why) => return refuse(region, why),
     };
-    let pfn = page.0 as usize;
     if pfn < region.allocated {
         return refuse(region, AllocError::BootPage(vaddr));
     }

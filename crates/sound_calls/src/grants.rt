@@ -76,7 +76,7 @@ pub fn allocate_file_page(
     allocate_info(region, words, 0, PageInfo::File(FileInfo { ref_count: 1 }))
 }
 
-// A heap without a free block refuses any item for want of memory; only then a bad item is refuse as such.
+// A heap without a free block refuses any item for want of memory; only then a bad item is refused as such.
 pub fn allocate_slab_page(
     region: HeapMemoryRegion,
     words: &mut [u64],

@@ -4,10 +4,12 @@
 #![tactic(auto)]
 
 ghost use Rattle.std.specs.Prelude.{ℕ, ◌≡◌, List, [], ◌∷◌};
-ghost use Rattle.sound_calls.specs.Answer.{no, ok, refusal, told};
+ghost use Rattle.words.specs.Place.{page_at};
+ghost use Rattle.sound_calls.specs.Answer.{ok, refusal, told};
+ghost use Rattle.sound_calls.specs.Code.{start_page};
 
 use region::{After, HeapMemoryRegion};
-use words::place::VirtAddr;
+use words::place::{PageAt, VirtAddr};
 
 pub mod files;
 pub mod free;
@@ -48,6 +50,16 @@ pub fn refuse<T>(region: HeapMemoryRegion, why: AllocError) -> After<Result<T, A
     }
 }
 
+// The page that an address starts.
+fn page_of(region: HeapMemoryRegion, vaddr: VirtAddr) -> Result<usize, AllocError>
+    ensures { result ≡ start_page vaddr (page_at region.start_virt.0 region.page_count vaddr.0) }
+{
+    match vaddr.get_pfn(region.start_virt, region.page_count as u64) {
+        PageAt::Start(page) => Ok(page.0 as usize),
+        PageAt::Within(_) | PageAt::Outside => Err(AllocError::InvalidHeapAddress(vaddr)),
+    }
+}
+
 // An answer as numbers: 0 or the number of its refusal, and what it carries. (Numbers, since document 01, C and the shell know a refusal by its own.)
 #[derive(Clone, Copy, Debug, PartialEq, Eq)]
 pub struct Answer {
@@ -56,23 +68,18 @@ pub struct Answer {
     pub second: Option<u64>,
 }
 
-fn bare(number: u64) -> Answer
-    ensures { result ≡ no number [] }
-{
-    Answer {
-        number,
-        value: None,
-        second: None,
-    }
-}
+impl Answer {
+    ghost use Rattle.sound_calls.specs.Answer.{no};
 
-fn with(number: u64, value: u64) -> Answer
-    ensures { result ≡ no number (value ∷ []) }
-{
-    Answer {
-        number,
-        value: Some(value),
-        second: None,
+    // A third value is ignored.
+    fn new(number: u64, values: &[u64]) -> Answer
+        ensures { result ≡ no number values.now }
+    {
+        Answer {
+            number,
+            value: values.first().copied(),
+            second: values.get(1).copied(),
+        }
     }
 }
 
@@ -82,18 +89,18 @@ impl From<AllocError> for Answer {
 
     fn from(e: AllocError) -> Answer {
         match e {
-            AllocError::BadCount => bare(1),
-            AllocError::BadStart => bare(2),
-            AllocError::TooManyBoot => bare(3),
-            AllocError::Damaged => bare(4),
-            AllocError::InvalidPageOrder(order) => with(5, order as u64),
-            AllocError::OutOfMemory => bare(6),
-            AllocError::InvalidHeapAddress(address) => with(7, address.0),
-            AllocError::BootPage(address) => with(8, address.0),
-            AllocError::InvalidPageType(address) => with(9, address.0),
-            AllocError::InvalidFilePage(address) => with(10, address.0),
-            AllocError::RefFull(address) => with(11, address.0),
-            AllocError::InvalidItem(item) => with(12, item),
+            AllocError::BadCount => Answer::new(1, &[]),
+            AllocError::BadStart => Answer::new(2, &[]),
+            AllocError::TooManyBoot => Answer::new(3, &[]),
+            AllocError::Damaged => Answer::new(4, &[]),
+            AllocError::InvalidPageOrder(order) => Answer::new(5, &[order as u64]),
+            AllocError::OutOfMemory => Answer::new(6, &[]),
+            AllocError::InvalidHeapAddress(address) => Answer::new(7, &[address.0]),
+            AllocError::BootPage(address) => Answer::new(8, &[address.0]),
+            AllocError::InvalidPageType(address) => Answer::new(9, &[address.0]),
+            AllocError::InvalidFilePage(address) => Answer::new(10, &[address.0]),
+            AllocError::RefFull(address) => Answer::new(11, &[address.0]),
+            AllocError::InvalidItem(item) => Answer::new(12, &[item]),
         }
     }
 }
@@ -110,7 +117,7 @@ impl Carried for () {
     ghost values = { λ _. [] };
 
     fn carried(self) -> Answer {
-        bare(0)
+        Answer::new(0, &[])
     }
 }
 
@@ -118,7 +125,7 @@ impl Carried for VirtAddr {
     ghost values = { λ address. address.0 ∷ [] };
 
     fn carried(self) -> Answer {
-        with(0, self.0)
+        Answer::new(0, &[self.0])
     }
 }
 
@@ -126,7 +133,7 @@ impl Carried for u64 {
     ghost values = { λ n. n ∷ [] };
 
     fn carried(self) -> Answer {
-        with(0, self)
+        Answer::new(0, &[self])
     }
 }
 
@@ -134,11 +141,7 @@ impl Carried for SizeAlign {
     ghost values = { λ l. l.size ∷ l.align ∷ [] };
 
     fn carried(self) -> Answer {
-        Answer {
-            number: 0,
-            value: Some(self.size),
-            second: Some(self.align),
-        }
+        Answer::new(0, &[self.size, self.align])
     }
 }
 
