@@ -13,35 +13,30 @@ pub enum Line {
 // Where the input comes from: a terminal, or a script.
 #[derive(Drop)]
 pub struct Terminal<'a, R> {
-    rt: &'a R,
-    is_terminal: bool,
+    // What speaks to the terminal. A script has none.
+    rt: Option<&'a R>,
 }
 
 impl<'a, R: Eprint> Terminal<'a, R> {
     pub fn new(rt: &'a R, input: &impl IsTerminal) -> Self {
         Terminal {
-            rt,
-            is_terminal: input.is_terminal(),
+            rt: input.is_terminal().then_some(rt),
         }
     }
 
     // Writes what a script has not.
     pub fn tell(&self, text: &str) {
-        if self.is_terminal {
-            let _ = self.rt.eprint(text);
+        if let Some(rt) = self.rt {
+            let _ = rt.eprint(text);
         }
     }
 
     // What a line is.
     pub fn kind(&self, line: &[u8]) -> Line {
-        if !self.is_terminal {
-            Line::Request
-        } else if is_silent(line) {
-            Line::Silent
-        } else if is_quit(line) {
-            Line::Quit
-        } else {
-            Line::Request
+        match self.rt {
+            Some(_) if is_silent(line) => Line::Silent,
+            Some(_) if is_quit(line) => Line::Quit,
+            _ => Line::Request,
         }
     }
 }

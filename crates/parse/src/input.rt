@@ -153,8 +153,8 @@ fn field_named(name: &[u8]) -> Option<Field>
 fn encode(text: &[u8]) -> Option<Request>
     ensures { result ≡ numbers_to Request.Encode (words_of text.now) }
 {
-    let (kind, a, b) = three(text)?;
-    Some(Request::Encode(kind, a, b))
+    let (kind, field, next) = three(text)?;
+    Some(Request::Encode { kind, field, next })
 }
 
 // A number, and no word more.

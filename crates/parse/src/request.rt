@@ -25,7 +25,11 @@ pub enum Request {
     Poke(usize, u64),
     // The field of an order, or one that stands alone, and its value.
     Field(Field, usize, u64),
-    Encode(u64, u64, u64),
+    Encode {
+        kind: u64,
+        field: u64,
+        next: u64,
+    },
     Decode(u64),
     Order(usize),
     Help,

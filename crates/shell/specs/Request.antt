@@ -101,7 +101,7 @@ module _ (r : HeapMemoryRegion) (ws : List ℕ) where
   acted (Some (Request.Word i)) = says r ws (read ws i)
   acted (Some (Request.Poke i w)) = poked i w
   acted (Some (Request.Field f i v)) = written f i v
-  acted (Some (Request.Encode type a b)) = says r ws (encoded_line (encode_fields type a b))
+  acted (Some (Request.Encode kind field next)) = says r ws (encoded_line (encode_fields kind field next))
   acted (Some (Request.Decode w)) = says r ws (decoded_line (decode_of w))
   acted (Some (Request.Order size)) = says r ws (line Word.Ok (Value.Number (order_of size) ∷ []))
   acted (Some Request.Help) = did r ws (Reply.Text TextKind.Help)

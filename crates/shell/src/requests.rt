@@ -53,7 +53,9 @@ pub fn act(region: HeapMemoryRegion, words: &mut [u64], request: Option<Request>
         Request::Word(i) => said(region, word_at(words, i)),
         Request::Poke(i, w) => said(region, poke(words, i, w)),
         Request::Field(field, i, value) => write_field(region, field, i, value),
-        Request::Encode(kind, a, b) => said(region, of_encoded(word::encode_fields(kind, a, b))),
+        Request::Encode { kind, field, next } => {
+            said(region, of_encoded(word::encode_fields(kind, field, next)))
+        }
         Request::Decode(w) => said(region, of_decoded(word::decode(w))),
         Request::Order(size) => said(region, number(word::get_order(size) as u64)),
         Request::Help => asked(region, TextKind::Help),

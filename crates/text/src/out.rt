@@ -1,5 +1,5 @@
 // Standard output, by way of a buffer that the caller lends.
-ghost use Rattle.std.specs.Prelude.{◌≡◌, ◌≤◌, length, IfOk, IsOkAnd};
+ghost use Rattle.std.specs.Prelude.{◌≡◌, ◌≤◌, length, OnOk, IsOkAnd};
 ghost use Rattle.std.specs.Result.{ForOk};
 
 use std::fmt;
@@ -27,10 +27,11 @@ impl<'a, P: Print> Out<'a, P> {
     }
 
     // Writes what waits.
-    pub fn flush(&mut self) -> fmt::Result {
-        let rt = self.rt;
+    pub fn flush(&mut self) -> fmt::Result
+        ensures { OnOk result (IsOkAnd self.new.waiting (λ n. n ≡ 0)) }
+    {
         let waiting = self.waiting?;
-        self.waiting = written(rt, &self.buffer[..waiting]);
+        self.waiting = write_out(self.rt, &self.buffer[..waiting]).and(Ok(0));
         self.waiting?;
         Ok(())
     }
@@ -47,19 +48,14 @@ impl<P: Print> fmt::Write for Out<'_, P> {
             self.buffer[from..from + bytes.len()].copy_from_slice(bytes);
             self.waiting = Ok(from + bytes.len());
         } else {
-            self.waiting = written(self.rt, bytes);
+            self.waiting = write_out(self.rt, bytes).and(Ok(0));
         }
         self.waiting?;
         Ok(())
     }
 }
 
-// How many bytes wait after these are written.
-fn written(rt: &impl Print, bytes: &[u8]) -> Result<usize, fmt::Error>
-    ensures { IfOk result (λ n. n ≡ 0) }
-{
-    match rt.write_all(bytes) {
-        Ok(()) => Ok(0),
-        Err(_) => Err(fmt::Error),
-    }
+// Writes bytes past the buffer.
+fn write_out(rt: &impl Print, bytes: &[u8]) -> fmt::Result {
+    rt.write_all(bytes).map_err(|_| fmt::Error)
 }
