@@ -1,6 +1,5 @@
 -- Both lengths and the answer pick the case of `report_left`.
-use Rattle.common.specs.Kit.{◌≡◌, ap, ◌∙◌, eq-eqb, length, rules}
-use Rattle.abi.specs.Record.{with_six}
+use Rattle.common.specs.Kit.{◌≡◌, ap, eq-eqb, length, rules}
 use Rattle.abi.specs.Promise.{reported}
 use Rattle.abi.proofs.Packed.{reports}
 use Rattle.abi.proofs.reads.tingmudra_memory_info.Goals as goal
