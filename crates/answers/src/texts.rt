@@ -38,7 +38,7 @@ pub fn write_text(
     }
 }
 
-// The report as twelve numbers.
+// The report as twelve numbers. (Two functions, this and `print`: what they share is `memory`, and one for both would be no plainer.)
 fn report(out: &mut impl Write, region: HeapMemoryRegion, words: &[u64]) -> fmt::Result {
     match memory(region, words) {
         Ok(memory) => {
@@ -58,7 +58,7 @@ fn print(out: &mut impl Write, region: HeapMemoryRegion, words: &[u64]) -> fmt::
     }
 }
 
-// The blocks of each order, or the line of the refusal.
+// The blocks of each order, or the line of the refusal. (A copy of heap::Report, field by field: `text` stands on no crate of the heap.)
 fn memory(region: HeapMemoryRegion, words: &[u64]) -> Result<Memory, Line> {
     let report = memory_info(region, words).map_err(|e| of_answer(Answer::from(e)))?;
     let total = report.total_pages;

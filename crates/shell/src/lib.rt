@@ -26,7 +26,8 @@ pub const MOST_WORDS: usize = 8192;
 // The word of a Reserved page.
 pub const RESERVED: u64 = 15;
 
-// What stays from line to line: the record, how many words are lent, and the buffer whose first words these are.
+// What stays from line to line: the record, how many words are lent, and the buffer whose first words these are. (That the buffer has so many is no
+// ghost field: `answered` says what a shell does that lends more, so such a one may be built.)
 #[derive(Drop)]
 pub struct Shell<'a> {
     pub region: HeapMemoryRegion,

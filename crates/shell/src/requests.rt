@@ -5,7 +5,7 @@ ghost use Rattle.shell.specs.Request.{did, says, lends, read, poked, acted};
 
 use crate::MOST_WORDS;
 use crate::record::write_field;
-use crate::steps::{Reply, said, told};
+use crate::steps::{Reply, said, seen, told};
 use answers::lines::{bad, number, of_decoded, of_encoded};
 use answers::texts::TextKind;
 use heap::reads::{audit, layout_from_ptr};
@@ -33,20 +33,11 @@ pub fn act(region: HeapMemoryRegion, words: &mut [u64], request: Option<Request>
         Request::File => told(allocate_file_page(region, words)),
         Request::Slab(size) => told(allocate_slab_page(region, words, size)),
         Request::Free(at) => told(free_page(region, words, at)),
-        Request::Get(at) => told(After {
-            region,
-            answer: get_file_page(region, words, at),
-        }),
+        Request::Get(at) => seen(region, get_file_page(region, words, at)),
         Request::Put(at) => told(put_file_page(region, words, at)),
-        Request::Lookup(at) => told(After {
-            region,
-            answer: layout_from_ptr(region, words, at),
-        }),
+        Request::Lookup(at) => seen(region, layout_from_ptr(region, words, at)),
         Request::Report => asked(region, TextKind::Report),
-        Request::Audit => told(After {
-            region,
-            answer: audit(region, words),
-        }),
+        Request::Audit => seen(region, audit(region, words)),
         Request::Print => asked(region, TextKind::Print),
         Request::Lists => asked(region, TextKind::Lists),
         Request::State => asked(region, TextKind::State),
@@ -89,10 +80,9 @@ fn lend(region: HeapMemoryRegion, n: usize) -> After<Reply>
 fn word_at(words: &[u64], i: usize) -> Line
     ensures { result ≡ read words.now i }
 {
-    if i < words.len() {
-        Line::new(Word::Hex(words[i]), &[])
-    } else {
-        Line::new(Word::Out, &[])
+    match words.get(i) {
+        Some(w) => Line::new(Word::Hex(*w), &[]),
+        None => Line::new(Word::Out, &[]),
     }
 }
 

@@ -33,5 +33,12 @@ pub fn said(region: HeapMemoryRegion, line: Line) -> After<Reply>
 pub fn told<T: Carried>(left: After<Result<T, AllocError>>) -> After<Reply>
     ensures { result ≡ step left.region (line_of (told T.values left.answer)) }
 {
-    said(left.region, of_answer(Answer::from(left.answer)))
+    seen(left.region, left.answer)
+}
+
+// The same of a call that only reads: the record stays.
+pub fn seen<T: Carried>(region: HeapMemoryRegion, answer: Result<T, AllocError>) -> After<Reply>
+    ensures { result ≡ step region (line_of (told T.values answer)) }
+{
+    said(region, of_answer(Answer::from(answer)))
 }

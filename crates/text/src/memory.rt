@@ -1,7 +1,7 @@
 // The memory report as seven lines.
 use std::fmt;
 
-// The blocks and the free blocks of each order.
+// The blocks and the free blocks of each order. (Two arrays by order, as the record has them: document 01.)
 #[derive(Clone, Copy)]
 pub struct Memory {
     pub total: [usize; 6],
