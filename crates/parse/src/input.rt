@@ -157,8 +157,8 @@ fn encode(text: &[u8]) -> Option<Request>
     Some(Request::Encode { kind, field, next })
 }
 
-// A number, and no word more. (`one`, `two` and `three` prove alone. Tried: one function over a count, as a loop that fills an array; the invariant is
-// left to find, and all six goals about it stay open.)
+// A number, and no word more. (`one`, `two` and `three`, and not one function over a count: these prove with no file, where a loop that fills an array
+// wants an invariant, and the parts get their names from the pattern, as in `let (start, pages, boot) = three(text)?`.)
 fn one(text: &[u8]) -> Option<u64>
     ensures { result ≡ one (words_of text.now) }
 {
