@@ -157,8 +157,8 @@ fn encode(text: &[u8]) -> Option<Request>
     Some(Request::Encode { kind, field, next })
 }
 
-// A number, and no word more. (`one`, `two` and `three` prove alone. Tried: one function over a count, as a loop that fills an array; the invariant is
-// left to find, and all six goals about it stay open.)
+// A number, and no word more. (`one`, `two` and `three` are proved with nothing said. Tried: one function over a count, a loop that fills an array; it
+// needs an invariant, and the check left all six goals open.)
 fn one(text: &[u8]) -> Option<u64>
     ensures { result ≡ one (words_of text.now) }
 {
