@@ -20,7 +20,8 @@ pub mod managed;
 pub mod survey;
 pub mod tiles;
 
-// Whether the numbers of the record are those of a region with these words.
+// Whether the numbers of the record are those of a region with these words. (The tests of `set_up_answer` in `heap`, which stands above and gives
+// each its refusal: here no refusal is known.)
 #[tactic(auto, using(crate::proofs::Limit::tests))]
 fn numbers_good(region: HeapMemoryRegion, words: &[u64]) -> bool
     ensures { result ≡ every (keeps region words.now) numbers }

@@ -1,6 +1,6 @@
-// The calls that grant, return and count pages. Each audits first, and hands on what the audit refuses. (The match is all that a call is. A function for
-// it would be called as `audited(region, words, |words| sound_calls::free::free_page(region, words, vaddr))`, no plainer, and its contract would have to
-// say what the closure leaves of the words.)
+// The calls that grant, return and count pages. Each audits first, and hands on what the audit refuses. (The match is all that a call is. Tried: one
+// function for it that takes the inner call as a closure, `audited(region, words, |words| ..)`. Its contract has to ask `F.pre` of every reference to
+// the words, where they are sound, and to say by `F.post` what is left of them: longer than the match, and no plainer.)
 ghost use Rattle.std.specs.Prelude.{◌≡◌};
 ghost use Rattle.buddy.specs.Request.{for_block, for_file, for_slab, on, to_free, to_get, to_put};
 ghost use Rattle.sound_calls.specs.Answer.{effect_of, done, grant, count};

@@ -1,5 +1,5 @@
-// Page words and the order of a size, for callers of the heap. (Each hands on: they are the heap's public calls by docs/PROMISES.md, and raw fields come as
-// three numbers from C and the shell.)
+// Page words and the order of a size, for callers of the heap. (Each hands on: they are the heap's public calls by docs/PROMISES.md, and raw
+// fields come as three numbers from C and the shell.)
 ghost use Rattle.std.specs.Prelude.{◌≡◌};
 ghost use Rattle.words.specs.Word.{decode_of, encode_of};
 ghost use Rattle.words.specs.Order.{order_of};

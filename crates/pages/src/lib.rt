@@ -1,7 +1,7 @@
 // The words of a region's pages, lent as u64: one word read or written, a row of them, a block's.
-// For the steps on lists and blocks above it. It knows no record; below it stands `words`. (That a page has a word, and that an order is below 6, is
-// asked as a slice asks it of an index: a type of such pages or orders would have to be made at each call, from the same fact. A block's page and order
-// go one by one, as upstream's clauses have them: docs/CONTRACTS.md.)
+// For the steps on lists and blocks above it. It knows no record; below it stands `words`. (That a page has a word, and that an order is below 6,
+// is asked as a slice asks it of an index: a type of such pages or orders would have to be made at each call, from the same fact. A block's page
+// and order go one by one, as upstream's clauses have them: docs/CONTRACTS.md.)
 #![tactic(auto)]
 
 ghost use Rattle.std.specs.Prelude.{◌≡◌, ◌+◌, ◌<◌, ◌≤◌, ◌^◌, length, set};

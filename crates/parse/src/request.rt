@@ -25,6 +25,7 @@ pub enum Request {
     Poke(usize, u64),
     // The field of an order, or one that stands alone, and its value.
     Field(Field, usize, u64),
+    // A page's raw fields: three numbers, as the line gives them.
     Encode {
         kind: u64,
         field: u64,

@@ -1,5 +1,6 @@
 // Returning a block: the buddy, the merge, the recursion up the orders (C50).
 // For the public calls that free and put, and for set-up. Below it stand the steps of `region`.
+// (A block's page and order go one by one, as in `pages`.)
 #![tactic(auto)]
 
 ghost use Rattle.std.specs.Prelude.{◌≡◌, ◌-◌};

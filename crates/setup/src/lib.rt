@@ -1,5 +1,6 @@
 // Set-up of a region on lent words: boot and metadata words, then every managed page freed (C70, C71).
 // For the public set-up call, which refuses bad numbers first. Below it stand the steps of `region` and the free of `release`.
+// (A block's page and order go one by one, as in `pages`.)
 #![tactic(auto)]
 
 ghost use Rattle.std.specs.Prelude.{◌≡◌, length};

@@ -23,7 +23,7 @@ mod steps;
 // The most words that can be lent.
 pub const MOST_WORDS: usize = 8192;
 
-// The word of a Reserved page.
+// The word of a Reserved page. (A number: words are lent as u64, and an array that holds it at first is written so in document 01.)
 pub const RESERVED: u64 = 15;
 
 // What stays from line to line: the record, how many words are lent, and the buffer whose first words these are. (That the buffer has so many is no

@@ -33,6 +33,7 @@ fn has_field(field: Field, i: usize) -> bool
     }
 }
 
+// (An order below 6 is asked, as in `pages`; a field that stands alone has 0.)
 fn with_field(mut region: HeapMemoryRegion, field: Field, i: usize, value: u64) -> HeapMemoryRegion
     requires { i < 6 }
     ensures { result ≡ with_field region field i value }

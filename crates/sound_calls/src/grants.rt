@@ -16,7 +16,7 @@ use region::{After, HeapMemoryRegion};
 use words::place::{PageNumber, VirtAddr};
 use words::word::{AllocatedInfo, FileInfo, MAX_ORDER, PageInfo, SlabPageInfo};
 
-// The answer for a page of a region.
+// The answer for a page of a region. (Its start and pages one by one, as `virt_addr` takes them.)
 fn granted_at(start_virt: VirtAddr, page_count: usize, pfn: usize) -> Result<VirtAddr, AllocError>
     ensures { result ≡ address_grant (address_at start_virt.0 page_count pfn) }
 {

@@ -7,6 +7,7 @@ use crate::word::{
     ReservedInfo, SlabPageInfo,
 };
 
+// (The type by its number: C and the shell have it so.)
 #[derive(Clone, Copy, Debug, PartialEq, Eq)]
 pub struct Fields {
     pub kind: u64,

@@ -2,7 +2,8 @@
 ghost use Rattle.std.specs.Prelude.{◌≡◌, true};
 ghost use Rattle.words.specs.Word.{type_of, row, next_page_of, next_field, has_field, decode_of, in_table, word_of, encode_of, mem_of};
 
-// No page: what the record and a FreeInfo write for none. (A number and no Option: document 01 gives the record this number, and C reads both as numbers.)
+// No page: what the record and a FreeInfo write for none. (A number and no Option: document 01 gives the record this number, and C reads both
+// as numbers.)
 pub const NO_PAGE: usize = 0xffff_ffff_ffff_ffff;
 
 // Orders are below this.
@@ -142,7 +143,8 @@ impl PageStorageType {
         }
     }
 
-    // The word of fields that the caller knows to have one; of any others the word of a Reserved page.
+    // The word of fields that the caller knows to have one; of any others the word of a Reserved page. (No From: fields that have no word would be
+    // given one unseen.)
     #[tactic(auto, unfolding(crate::specs::Word::mem_of))]
     pub fn to_mem(info: PageInfo) -> PageStorageType
         ensures { result.0 ≡ mem_of info }
