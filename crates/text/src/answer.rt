@@ -52,17 +52,17 @@ impl Line {
 impl fmt::Display for Word {
     fn fmt<W: fmt::Write>(&self, f: &mut fmt::Formatter<W>) -> fmt::Result {
         match *self {
-            Word::Ok => write!(f, "ok"),
-            Word::No => write!(f, "no"),
-            Word::Bad => write!(f, "bad"),
-            Word::Out => write!(f, "out"),
-            Word::Free => write!(f, "free"),
-            Word::Allocated => write!(f, "allocated"),
-            Word::Slab => write!(f, "slab"),
-            Word::Compound => write!(f, "compound"),
-            Word::File => write!(f, "file"),
-            Word::Reserved => write!(f, "reserved"),
-            Word::Hex(w) => write!(f, "{w:x}"),
+            Word::Ok => f.write_str("ok"),
+            Word::No => f.write_str("no"),
+            Word::Bad => f.write_str("bad"),
+            Word::Out => f.write_str("out"),
+            Word::Free => f.write_str("free"),
+            Word::Allocated => f.write_str("allocated"),
+            Word::Slab => f.write_str("slab"),
+            Word::Compound => f.write_str("compound"),
+            Word::File => f.write_str("file"),
+            Word::Reserved => f.write_str("reserved"),
+            Word::Hex(w) => fmt::LowerHex::fmt(&w, f),
         }
     }
 }
@@ -70,9 +70,9 @@ impl fmt::Display for Word {
 impl fmt::Display for Value {
     fn fmt<W: fmt::Write>(&self, f: &mut fmt::Formatter<W>) -> fmt::Result {
         match *self {
-            Value::Number(n) => write!(f, "{n}"),
-            Value::Hex(w) => write!(f, "{w:x}"),
-            Value::NoPage => write!(f, "-"),
+            Value::Number(n) => fmt::Display::fmt(&n, f),
+            Value::Hex(w) => fmt::LowerHex::fmt(&w, f),
+            Value::NoPage => f.write_str("-"),
         }
     }
 }
@@ -80,10 +80,10 @@ impl fmt::Display for Value {
 // The word, and each value after a blank.
 impl fmt::Display for Line {
     fn fmt<W: fmt::Write>(&self, f: &mut fmt::Formatter<W>) -> fmt::Result {
-        let word = self.word;
-        write!(f, "{word}")?;
+        fmt::Display::fmt(&self.word, f)?;
         for value in self.values.iter().flatten() {
-            write!(f, " {value}")?;
+            f.write_str(" ")?;
+            fmt::Display::fmt(value, f)?;
         }
         Ok(())
     }

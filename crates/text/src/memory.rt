@@ -13,7 +13,7 @@ impl fmt::Display for Memory {
         for (order, (total, free)) in self.total.iter().zip(&self.free).enumerate() {
             writeln!(
                 f,
-                "Order-{order:02}: total pages: {total:5} free pages: {free:5}"
+                "Order-0{order}: total pages: {total:5} free pages: {free:5}"
             )?;
         }
         let total = kib(&self.total);

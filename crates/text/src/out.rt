@@ -35,22 +35,31 @@ impl<'a, P: Print> Out<'a, P> {
         self.waiting?;
         Ok(())
     }
+
+    // Takes bytes that do not fit behind what waits.
+    #[cold]
+    fn overflow(&mut self, bytes: &[u8]) -> fmt::Result {
+        self.flush()?;
+        if bytes.len() <= self.buffer.len() {
+            self.buffer[..bytes.len()].copy_from_slice(bytes);
+            self.waiting = Ok(bytes.len());
+        } else {
+            self.waiting = write_out(self.rt, bytes).and(Ok(0));
+        }
+        self.waiting?;
+        Ok(())
+    }
 }
 
 impl<P: Print> fmt::Write for Out<'_, P> {
     fn write_str(&mut self, s: &str) -> fmt::Result {
         let bytes = s.as_bytes();
-        if self.buffer.len() - self.waiting? < bytes.len() {
-            self.flush()?;
-        }
         let from = self.waiting?;
-        if bytes.len() <= self.buffer.len() - from {
-            self.buffer[from..from + bytes.len()].copy_from_slice(bytes);
-            self.waiting = Ok(from + bytes.len());
-        } else {
-            self.waiting = write_out(self.rt, bytes).and(Ok(0));
+        if self.buffer.len() - from < bytes.len() {
+            return self.overflow(bytes);
         }
-        self.waiting?;
+        self.buffer[from..from + bytes.len()].copy_from_slice(bytes);
+        self.waiting = Ok(from + bytes.len());
         Ok(())
     }
 }
