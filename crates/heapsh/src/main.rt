@@ -10,7 +10,7 @@ mod terminal;
 use crate::input::Input;
 use crate::session::Session;
 use crate::terminal::Terminal;
-use shell::{MOST_WORDS, RESERVED, Shell};
+use shell::{MOST_WORDS, OpenShell, RESERVED};
 use std::process::ExitCode;
 use text::out::Out;
 
@@ -28,7 +28,7 @@ fn main(rt: HostRuntime) -> ExitCode {
     let mut written = [0u8; BLOCK];
     let mut session = Session {
         terminal: &terminal,
-        shell: Shell::new(&mut words),
+        shell: OpenShell::new(&mut words),
         out: Out::new(&rt, &mut written),
     };
     match session.serve(&mut Input::new(&mut reader, &mut read)) {

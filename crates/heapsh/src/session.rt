@@ -1,7 +1,7 @@
 // The lines of the input, answered.
 use crate::input::Input;
 use crate::terminal::{Line, Terminal};
-use shell::Shell;
+use shell::OpenShell;
 use std::fmt;
 use std::io::Read;
 use std::ops::ControlFlow;
@@ -10,7 +10,7 @@ use text::out::Out;
 #[derive(Drop)]
 pub struct Session<'a, R> {
     pub terminal: &'a Terminal<'a, R>,
-    pub shell: Shell<'a>,
+    pub shell: OpenShell<'a>,
     pub out: Out<'a, R>,
 }
 

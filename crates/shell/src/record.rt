@@ -1,26 +1,23 @@
 // The record's fields by name, to try damage.
 ghost use Rattle.std.specs.Prelude.{◌≡◌, List, ℕ, ◌<◌};
-ghost use Rattle.shell.specs.Request.{did, has_field, with_field, written};
+ghost use Rattle.shell.specs.Request.{says, has_field, with_field, written};
 
-use crate::steps::{Reply, said};
 use answers::lines::bad;
 use parse::request::Field;
-use region::{After, HeapMemoryRegion};
+use region::HeapMemoryRegion;
 use text::answer::{Line, Word};
 use words::place::VirtAddr;
 use words::word::MAX_ORDER;
 
 // Overwrites a field: one of an array, where `i` is an order, or one that stands alone, where it is 0.
-pub fn write_field(region: HeapMemoryRegion, field: Field, i: usize, value: u64) -> After<Reply>
-    ensures { (ws : List ℕ) → did result.region ws result.answer ≡ written region ws field i value }
+pub fn write_field(region: &mut HeapMemoryRegion, field: Field, i: usize, value: u64) -> Line
+    ensures { (ws : List ℕ) → says region.new ws result ≡ written region.old ws field i value }
 {
     if has_field(field, i) {
-        said(
-            with_field(region, field, i, value),
-            Line::new(Word::Ok, &[]),
-        )
+        set_field(region, field, i, value);
+        Line::new(Word::Ok, &[])
     } else {
-        said(region, bad())
+        bad()
     }
 }
 
@@ -34,9 +31,9 @@ fn has_field(field: Field, i: usize) -> bool
 }
 
 // (An order below 6 is asked, as in `pages`; a field that stands alone has 0.)
-fn with_field(mut region: HeapMemoryRegion, field: Field, i: usize, value: u64) -> HeapMemoryRegion
+fn set_field(region: &mut HeapMemoryRegion, field: Field, i: usize, value: u64)
     requires { i < 6 }
-    ensures { result ≡ with_field region field i value }
+    ensures { region.new ≡ with_field region.old field i value }
 {
     match field {
         Field::Nr => region.nr_pages[i] = value as usize,
@@ -46,5 +43,4 @@ fn with_field(mut region: HeapMemoryRegion, field: Field, i: usize, value: u64) 
         Field::Pages => region.page_count = value as usize,
         Field::Boot => region.allocated = value as usize,
     }
-    region
 }

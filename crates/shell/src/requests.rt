@@ -5,7 +5,7 @@ ghost use Rattle.shell.specs.Request.{did, says, lends, read, poked, acted};
 
 use crate::MOST_WORDS;
 use crate::record::write_field;
-use crate::steps::{Reply, said, seen, told};
+use crate::steps::{Reply, seen, told};
 use answers::lines::{bad, number, of_decoded, of_encoded};
 use answers::texts::TextKind;
 use heap::reads::{audit, layout_from_ptr};
@@ -15,65 +15,56 @@ use heap::requests::{
 use heap::start::{empty_region, root_mem_init};
 use heap::word;
 use parse::request::Request;
-use region::{After, HeapMemoryRegion};
+use region::HeapMemoryRegion;
 use text::answer::{Line, Word};
 
-// Does what a request asks for; without one, nothing.
+// Does what a request asks for; without one, nothing. (The record is changed where it stands: copied to each step and back it costs more than what
+// most lines ask for.)
 #[tactic(auto, unfolding(crate::specs::Request::acted))]
-pub fn act(region: HeapMemoryRegion, words: &mut [u64], request: Option<Request>) -> After<Reply>
-    ensures { did result.region words.new result.answer ≡ acted region words.old request }
+pub fn act(region: &mut HeapMemoryRegion, words: &mut [u64], request: Option<Request>) -> Reply
+    ensures { did region.new words.new result ≡ acted region.old words.old request }
 {
     let Some(request) = request else {
-        return said(region, bad());
+        return Reply::Line(bad());
     };
     match request {
         Request::Words(n) => lend(region, n),
-        Request::Setup { start, pages, boot } => { told(root_mem_init(start, pages, boot, words)) }
-        Request::Alloc(order) => told(allocate_pages(region, words, order)),
-        Request::File => told(allocate_file_page(region, words)),
-        Request::Slab(size) => told(allocate_slab_page(region, words, size)),
-        Request::Free(at) => told(free_page(region, words, at)),
-        Request::Get(at) => seen(region, get_file_page(region, words, at)),
-        Request::Put(at) => told(put_file_page(region, words, at)),
-        Request::Lookup(at) => seen(region, layout_from_ptr(region, words, at)),
-        Request::Report => asked(region, TextKind::Report),
-        Request::Audit => seen(region, audit(region, words)),
-        Request::Print => asked(region, TextKind::Print),
-        Request::Lists => asked(region, TextKind::Lists),
-        Request::State => asked(region, TextKind::State),
-        Request::Word(i) => said(region, word_at(words, i)),
-        Request::Poke(i, w) => said(region, poke(words, i, w)),
-        Request::Field(field, i, value) => write_field(region, field, i, value),
-        Request::Encode { kind, field, next } => {
-            said(region, of_encoded(word::encode_fields(kind, field, next)))
+        Request::Setup { start, pages, boot } => {
+            told(root_mem_init(start, pages, boot, words), region)
         }
-        Request::Decode(w) => said(region, of_decoded(word::decode(w))),
-        Request::Order(size) => said(region, number(word::get_order(size) as u64)),
-        Request::Help => asked(region, TextKind::Help),
-    }
-}
-
-// A text that is made of the record and the words.
-fn asked(region: HeapMemoryRegion, kind: TextKind) -> After<Reply>
-    ensures { result ≡ record { region = region; answer = Reply.Text kind } }
-{
-    After {
-        region,
-        answer: Reply::Text(kind),
+        Request::Alloc(order) => told(allocate_pages(*region, words, order), region),
+        Request::File => told(allocate_file_page(*region, words), region),
+        Request::Slab(size) => told(allocate_slab_page(*region, words, size), region),
+        Request::Free(at) => told(free_page(*region, words, at), region),
+        Request::Get(at) => seen(get_file_page(*region, words, at)),
+        Request::Put(at) => told(put_file_page(*region, words, at), region),
+        Request::Lookup(at) => seen(layout_from_ptr(*region, words, at)),
+        Request::Report => Reply::Text(TextKind::Report),
+        Request::Audit => seen(audit(*region, words)),
+        Request::Print => Reply::Text(TextKind::Print),
+        Request::Lists => Reply::Text(TextKind::Lists),
+        Request::State => Reply::Text(TextKind::State),
+        Request::Word(i) => Reply::Line(word_at(words, i)),
+        Request::Poke(i, w) => Reply::Line(poke(words, i, w)),
+        Request::Field(field, i, value) => Reply::Line(write_field(region, field, i, value)),
+        Request::Encode { kind, field, next } => {
+            Reply::Line(of_encoded(word::encode_fields(kind, field, next)))
+        }
+        Request::Decode(w) => Reply::Line(of_decoded(word::decode(w))),
+        Request::Order(size) => Reply::Line(number(word::get_order(size) as u64)),
+        Request::Help => Reply::Text(TextKind::Help),
     }
 }
 
 // So many words, all Reserved, and the empty record.
-fn lend(region: HeapMemoryRegion, n: usize) -> After<Reply>
-    ensures { (ws : List ℕ) → did result.region ws result.answer ≡ lends region ws n }
+fn lend(region: &mut HeapMemoryRegion, n: usize) -> Reply
+    ensures { (ws : List ℕ) → did region.new ws result ≡ lends region.old ws n }
 {
     if n <= MOST_WORDS {
-        After {
-            region: empty_region(),
-            answer: Reply::Lent(n),
-        }
+        *region = empty_region();
+        Reply::Lent(n)
     } else {
-        said(region, bad())
+        Reply::Line(bad())
     }
 }
 

@@ -1,4 +1,4 @@
-// What a request comes to: the record after it, and the reply.
+// What a request comes to.
 ghost use Rattle.std.specs.Prelude.{◌≡◌};
 ghost use Rattle.sound_calls.specs.Answer.{told};
 ghost use Rattle.answers.specs.Lines.{line_of};
@@ -20,25 +20,17 @@ pub enum Reply {
     Text(TextKind),
 }
 
-pub fn said(region: HeapMemoryRegion, line: Line) -> After<Reply>
-    ensures { result ≡ step region line }
+// A call's answer, as a line; the record that it left is kept.
+pub fn told<T: Carried>(left: After<Result<T, AllocError>>, region: &mut HeapMemoryRegion) -> Reply
+    ensures { record { region = region.new; answer = result } ≡ step left.region (line_of (told T.values left.answer)) }
 {
-    After {
-        region,
-        answer: Reply::Line(line),
-    }
+    *region = left.region;
+    seen(left.answer)
 }
 
-// What a call of the heap left, and its answer as a line.
-pub fn told<T: Carried>(left: After<Result<T, AllocError>>) -> After<Reply>
-    ensures { result ≡ step left.region (line_of (told T.values left.answer)) }
+// The answer of a call that only reads.
+pub fn seen<T: Carried>(answer: Result<T, AllocError>) -> Reply
+    ensures { result ≡ Reply.Line (line_of (told T.values answer)) }
 {
-    seen(left.region, left.answer)
-}
-
-// The same of a call that only reads: the record stays.
-pub fn seen<T: Carried>(region: HeapMemoryRegion, answer: Result<T, AllocError>) -> After<Reply>
-    ensures { result ≡ step region (line_of (told T.values answer)) }
-{
-    said(region, of_answer(Answer::from(answer)))
+    Reply::Line(of_answer(Answer::from(answer)))
 }
