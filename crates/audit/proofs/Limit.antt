@@ -29,7 +29,7 @@ pub limits-bounded : (r : HeapMemoryRegion) (ws : List ℕ) → InLimits r ws �
 limits-bounded r ws l = within-bounded (limits-within ws l)
 
 -- the six lines, the first two of them as one test
-first_two : (r : HeapMemoryRegion) (ws : List ℕ) → every (keeps r ws) numbers ≡
+pub first_two : (r : HeapMemoryRegion) (ws : List ℕ) → every (keeps r ws) numbers ≡
     (leb 1 r.page_count && leb r.page_count max_pages) &&
     (keeps r ws long && (keeps r ws aligned && (keeps r ws ends && (keeps r ws fits && true))))
 unfolding keeps
